@@ -1,0 +1,6 @@
+pub mod Crc
+pub mod Frame
+pub mod Finding
+pub mod Writing
+pub mod Refusals
+pub mod Reading

@@ -1,0 +1,6 @@
+// Serial frames of a radio card: their check value, writing them, and finding them in what a line brings.
+pub mod crc;
+pub mod finding;
+pub mod frame;
+pub mod reader;
+pub mod refusal;

@@ -1,0 +1,35 @@
+// What a reader does.
+ghost use mathlib.Core.Path.{_≡_};
+ghost use mathlib.Core.List.{[]};
+ghost use lib.ListN.{length};
+ghost use Rattle.frames.specs.Reading.{holds};
+use super::Reader;
+use super::Stage;
+
+impl Reader {
+    // A reader that holds nothing and hunts.
+    pub fn new() -> Reader
+        ensures { λ r. ⌜ holds r ≡ [] ⌝ }
+    {
+        Reader { stage: Stage::Hunting, length: 4, got: 0, body: [0; 254] }
+    }
+
+    // Forgets what is held, a lone 0xFF too, and hunts again; that is no drop.
+    pub fn forget(&mut self)
+        ensures { λ _. ⌜ holds (now (self .exit)) ≡ [] ⌝ }
+    {
+        self.stage = Stage::Hunting;
+    }
+
+    // How many bytes of an unfinished candidate are held.
+    pub fn held(&self) -> usize
+        ensures { λ r. ⌜ r ≡ length (holds (now (self .entry))) ⌝ }
+    {
+        match self.stage {
+            Stage::Hunting => 0,
+            Stage::Sync => 1,
+            Stage::Start => 2,
+            Stage::Body => 3 + self.got,
+        }
+    }
+}
