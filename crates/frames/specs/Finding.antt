@@ -30,9 +30,9 @@ verdict n body =
     (dropped End (n + 3))
 
 -- a candidate by its bytes: 0xFF, 0x02 and a LENGTH that no frame has, or a LENGTH and as many bytes more
-pub data Candidate : List ℕ → Found → Type 0 where
-  misfit : (n : ℕ) → (Sized n → ⊥) → Candidate (0xFF ∷ (0x02 ∷ (n ∷ []))) (dropped Length 3)
-  whole : (n : ℕ) (body : List ℕ) → Sized n → length body ≡ n → Candidate (0xFF ∷ (0x02 ∷ (n ∷ body))) (verdict n body)
+pub data Candidate (bytes : List ℕ) (v : Found) : Type 0 where
+  misfit : (n : ℕ) → bytes ≡ 0xFF ∷ (0x02 ∷ (n ∷ [])) → (Sized n → ⊥) → v ≡ dropped Length 3 → Candidate bytes v
+  whole : (n : ℕ) (body : List ℕ) → bytes ≡ 0xFF ∷ (0x02 ∷ (n ∷ body)) → Sized n → length body ≡ n → v ≡ verdict n body → Candidate bytes v
 
 -- noise: no 0xFF is directly followed by 0x02
 abbrev pub Quiet : List ℕ → Type 0
@@ -51,11 +51,11 @@ pub record Finds (bytes : List ℕ) (v : Found) (used : ℕ) : Type 0 where
   pub counted : used ≡ length noise + length candidate
 
 -- the start of a candidate that is not over yet; nothing, where none has begun
-pub data Begun : List ℕ → Type 0 where
-  none : Begun []
-  sync : Begun (0xFF ∷ [])
-  start : Begun (0xFF ∷ (0x02 ∷ []))
-  part : (n : ℕ) (body : List ℕ) → Sized n → length body < n → Begun (0xFF ∷ (0x02 ∷ (n ∷ body)))
+pub data Begun (held : List ℕ) : Type 0 where
+  none : held ≡ [] → Begun held
+  sync : held ≡ 0xFF ∷ [] → Begun held
+  start : held ≡ 0xFF ∷ (0x02 ∷ []) → Begun held
+  part : (n : ℕ) (body : List ℕ) → held ≡ 0xFF ∷ (0x02 ∷ (n ∷ body)) → Sized n → length body < n → Begun held
 
 -- the bytes hold nothing yet: noise, then the start of a candidate (where there is none, not even a 0x02 would open one)
 pub record Waits (bytes held : List ℕ) : Type 0 where

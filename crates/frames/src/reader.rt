@@ -3,6 +3,9 @@ ghost use mathlib.Core.Path.{_≡_};
 ghost use Prim.Native.Nat.{_≤_, _<_};
 ghost use lib.ListN.{length as long};
 
+mod gather;
+mod hunt;
+mod judge;
 mod reads;
 
 // How far a candidate has come.

@@ -2,7 +2,8 @@
 ghost use mathlib.Core.Path.{_≡_};
 ghost use mathlib.Core.List.{[]};
 ghost use lib.ListN.{length};
-ghost use Rattle.frames.specs.Reading.{holds};
+ghost use Rattle.frames.specs.Reading.{found, holds, Reads};
+use super::super::finding::Finding;
 use super::Reader;
 use super::Stage;
 
@@ -19,6 +20,16 @@ impl Reader {
         ensures { λ _. ⌜ holds (now (self .exit)) ≡ [] ⌝ }
     {
         self.stage = Stage::Hunting;
+    }
+
+    // Reads a stretch up to the first thing that it completes: what was found, and how many bytes that used.
+    // Where nothing is found yet, the whole stretch is used, and what has begun is held for the next call.
+    pub fn read(&mut self, stretch: &[u8]) -> (Finding, usize)
+        ensures reads { λ r. ⌜ Reads (holds (now (self .entry))) (now (stretch .entry)) (found (r .0)) (r .1) (holds (now (self .exit))) ⌝ }
+    {
+        let hunted = self.hunt(stretch);
+        let (finding, more) = self.candidate(&stretch[hunted..]);
+        (finding, hunted + more)
     }
 
     // How many bytes of an unfinished candidate are held.
