@@ -6,3 +6,4 @@ pub mod Verdicts
 pub mod Hunting
 pub mod Holding
 pub mod Gathering
+pub mod Appending

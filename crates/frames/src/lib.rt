@@ -4,3 +4,4 @@ pub mod finding;
 pub mod frame;
 pub mod reader;
 pub mod refusal;
+pub mod writing;
