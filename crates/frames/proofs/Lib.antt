@@ -1,4 +1,5 @@
 pub mod CheckValue
+pub mod ByteLists
 pub mod Quietness
 pub mod Joining
 pub mod Uniqueness
@@ -7,3 +8,5 @@ pub mod Hunting
 pub mod Holding
 pub mod Gathering
 pub mod Appending
+pub mod Exactness
+pub mod RoundTrip

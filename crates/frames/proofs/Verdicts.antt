@@ -9,6 +9,9 @@ use Rattle.frames.specs.declared.finding.Cause.the-variants.{Check, End}
 use Rattle.frames.specs.Crc.{crc-of}
 use Rattle.frames.specs.Finding.{Found, frame, dropped, stored-in, verdict}
 
+pub verdict-end : (n : ℕ) (body : List ℕ) → (getD body (n - 1) 0 ≡ 0x03 → ⊥) → verdict n body ≡ dropped End (n + 3)
+verdict-end n body wrong = cond-false _ _ _ (ne-eqb _ _ wrong)
+
 module _ (n : ℕ) (body : List ℕ) (ends : getD body (n - 1) 0 ≡ 0x03) where
   pub verdict-check : (stored-in n body ≡ crc-of (n ∷ take (n - 3) body) → ⊥) → verdict n body ≡ dropped Check (n + 3)
   verdict-check wrong = cond-true _ _ _ (eq-eqb _ _ ends) ∙ cond-false _ _ _ (ne-eqb _ _ wrong)

@@ -4,3 +4,4 @@ pub mod Finding
 pub mod Writing
 pub mod Refusals
 pub mod Reading
+pub mod Promises

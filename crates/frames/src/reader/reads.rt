@@ -2,6 +2,7 @@
 ghost use mathlib.Core.Path.{_≡_};
 ghost use mathlib.Core.List.{[]};
 ghost use lib.ListN.{length};
+ghost use Rattle.frames.specs.Promises.{Finds-exactly, Finds-written, Stands-as-written, Cut-anywhere, One-reading};
 ghost use Rattle.frames.specs.Reading.{found, holds, Reads};
 use super::super::finding::Finding;
 use super::Reader;
@@ -26,6 +27,11 @@ impl Reader {
     // Where nothing is found yet, the whole stretch is used, and what has begun is held for the next call.
     pub fn read(&mut self, stretch: &[u8]) -> (Finding, usize)
         ensures reads { λ r. ⌜ Reads (holds (now (self .entry))) (now (stretch .entry)) (found (r .0)) (r .1) (holds (now (self .exit))) ⌝ }
+        ensures exactly { λ r. ⌜ Finds-exactly (holds (now (self .entry))) (now (stretch .entry)) (found (r .0)) (r .1) ⌝ }
+        ensures written { λ r. ⌜ Finds-written (holds (now (self .entry))) (now (stretch .entry)) (found (r .0)) (r .1) ⌝ }
+        ensures stands { λ r. ⌜ Stands-as-written (holds (now (self .entry))) (now (stretch .entry)) (found (r .0)) (r .1) ⌝ }
+        ensures cut { λ r. ⌜ Cut-anywhere (holds (now (self .entry))) (now (stretch .entry)) (found (r .0)) (r .1) (holds (now (self .exit))) ⌝ }
+        ensures once { λ _. ⌜ One-reading ⌝ }
     {
         let hunted = self.hunt(stretch);
         let (finding, more) = self.candidate(&stretch[hunted..]);

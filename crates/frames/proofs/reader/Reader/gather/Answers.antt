@@ -1,4 +1,4 @@
-use mathlib.Core.Path.{_≡_, refl, sym, ap, _∙_}
+use mathlib.Core.Path.{_≡_, refl, sym, ap, subst, _∙_}
 use mathlib.Core.List.{_++_}
 use Prim.Native.Nat.{_+_, _-_, _≤_}
 use native.Mathlib.Omega.{arith}
@@ -10,6 +10,7 @@ use Rattle.std.proofs.shelf.Lists.{places, length-take-le}
 use Rattle.std.proofs.shelf.Parts.{take-putMid}
 use Rattle.frames.specs.declared.reader.Reader.{Reader}
 use Rattle.frames.specs.declared.reader.Stage.the-variants.{Body}
+use Rattle.frames.proofs.ByteLists.{Bytes, bytes-take, bytes-put}
 use Rattle.frames.proofs.Gathering.{gathers-held, gathers-all, judged-as, reads-at}
 use Rattle.frames.proofs.reader.Reader.gather.Needs as need
 
@@ -18,7 +19,10 @@ enough : (r : Reader) → length (take (r .got) (r .body)) + (r .length - r .got
 enough r = omega (arith, length-take-le (r .got) (r .body) (omega arith))
 
 pub ghost-self : need.ghost-self
-ghost-self c = search (needs, places)
+ghost-self c =
+    let r = c .args .self .now in
+    let small : Bytes (c .copy-from-slice .last .self) = subst Bytes (sym (c .copy-from-slice .ensures .after)) (λ i. omega (arith, c .typed .stretch i)) in
+    (r .least, (r .most, (omega arith, (search (needs, places), (bytes-put _ _ (r .body) _ (r .bytes) small, tt)))))
 
 pub returns-then-stretch-missing : need.returns-then-stretch-missing
 returns-then-stretch-missing c =
@@ -38,7 +42,10 @@ returns-then-self-eq0 c =
     reads-at r Body s _ _ _ (c .pre) (gathers-all (r .length) (take (r .got) (r .body)) s (r .least, r .most) missing _ (enough r) (c .if-stretch-missing .left) judged)
 
 pub ghost-self-2 : need.ghost-self-2
-ghost-self-2 c = search (needs, places)
+ghost-self-2 c =
+    let r = c .args .self .now in
+    let small : Bytes (c .copy-from-slice-2 .last .self) = subst Bytes (sym (c .copy-from-slice-2 .ensures .after)) (bytes-take _ (c .args .stretch .now) (λ i. omega (arith, c .typed .stretch i))) in
+    (r .least, (r .most, (r .«open», (search (needs, places), (bytes-put _ _ (r .body) _ (r .bytes) small, tt)))))
 
 pub returns : need.returns
 returns c =
