@@ -10,3 +10,5 @@ pub mod Gathering
 pub mod Appending
 pub mod Exactness
 pub mod RoundTrip
+pub mod Passing
+pub mod Searching

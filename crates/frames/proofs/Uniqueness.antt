@@ -10,22 +10,22 @@ use Rattle.frames.specs.Finding.{Found, dropped, Sized, Quiet, Candidate, misf
 use Rattle.frames.proofs.Quietness.{quiet-front, quiet-sync, quiet-none, first-mark}
 
 -- what a LENGTH and the bytes behind it come to, and how many bytes the candidate has
-data Judged (size : ℕ) (tail : List ℕ) (v : Found) (many : ℕ) : Type 0 where
+pub data Judged (size : ℕ) (tail : List ℕ) (v : Found) (many : ℕ) : Type 0 where
   unfit : (Sized size → ⊥) → v ≡ dropped Length 3 → many ≡ 3 → Judged size tail v many
   full : Sized size → size ≤ length tail → v ≡ verdict size (take size tail) → many ≡ size + 3 → Judged size tail v many
 
 -- a finding, by the first 0xFF that is directly followed by 0x02
-record Opened (bytes : List ℕ) (v : Found) (used : ℕ) : Type 0 where
-  noise : List ℕ
-  size : ℕ
-  tail : List ℕ
-  many : ℕ
-  split : bytes ≡ noise ++ (0xFF ∷ (0x02 ∷ (size ∷ tail)))
-  quiet : Quiet noise
-  judged : Judged size tail v many
-  counted : used ≡ length noise + many
+pub record Opened (bytes : List ℕ) (v : Found) (used : ℕ) : Type 0 where
+  pub noise : List ℕ
+  pub size : ℕ
+  pub tail : List ℕ
+  pub many : ℕ
+  pub split : bytes ≡ noise ++ (0xFF ∷ (0x02 ∷ (size ∷ tail)))
+  pub quiet : Quiet noise
+  pub judged : Judged size tail v many
+  pub counted : used ≡ length noise + many
 
-opened : {bytes : List ℕ} {v : Found} {used : ℕ} → Finds bytes v used → Opened bytes v used
+pub opened : {bytes : List ℕ} {v : Found} {used : ℕ} → Finds bytes v used → Opened bytes v used
 opened {bytes} {v} {used} f =
     elim (f .judged) [
       misfit n is small says ↦ record {

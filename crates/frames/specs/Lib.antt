@@ -5,3 +5,5 @@ pub mod Writing
 pub mod Refusals
 pub mod Reading
 pub mod Promises
+pub mod Samples
+pub mod Numbered

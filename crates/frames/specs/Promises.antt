@@ -7,6 +7,7 @@ use Rattle.std.specs.declared.option.Option.{Option}
 use Rattle.std.specs.declared.option.Option.the-variants.{Some, None}
 use Rattle.frames.specs.Frame.{frame-bytes}
 use Rattle.frames.specs.Finding.{Found, frame, Finds, Waits}
+use Rattle.frames.specs.Samples.{search-from}
 
 -- the reader finds a thing exactly if the finding rule finds it in the bytes held and handed over, at the same place
 abbrev pub Finds-exactly : List ℕ → List ℕ → Option Found → ℕ → Type 0
@@ -46,3 +47,8 @@ abbrev pub One-reading : Type 0
 One-reading =
     (bytes : List ℕ) (findings others : List (ℕ × Found)) (held after : List ℕ) → Reading 0 bytes findings held → Reading 0 bytes others after
     → (findings ≡ others) × (held ≡ after)
+
+-- the search that the sample cases compute with finds what the rule finds, and nothing else
+abbrev pub Search-is-the-rule : Type 0
+Search-is-the-rule =
+    (bytes : List ℕ) (v : Found) (used : ℕ) → (Finds bytes v used → search-from 0 bytes ≡ Some (v, used)) × (search-from 0 bytes ≡ Some (v, used) → Finds bytes v used)

@@ -2,6 +2,8 @@
 pub mod crc;
 pub mod finding;
 pub mod frame;
+pub mod numbered;
 pub mod reader;
 pub mod refusal;
+pub mod samples;
 pub mod writing;
