@@ -1,18 +1,33 @@
 -- The reader finds exactly what the rule finds, and one list of findings is all that bytes hold.
 use mathlib.Core.Path.{_≡_, refl, sym, ap, subst, _∙_}
 use mathlib.Core.List.{List, [], _∷_, _++_, append-assoc, append-nil}
-use Prim.Native.Nat.{ℕ, _+_, _≤_}
+use mathlib.Core.Logic.{⊎-elim}
+use Prim.Native.Nat.{ℕ, _+_, _≤_, _<_}
 use native.Mathlib.Omega.{arith}
 use lib.ListN.{length, take, drop, take-append-drop, length-append, length-drop}
 use Rattle.std.proofs.shelf.Lists.{length-take-le, take-all, drop-all, drop-append-le}
+use Rattle.std.proofs.shelf.Tests.{cases-lt}
 use Rattle.std.specs.declared.option.Option.{Option}
 use Rattle.std.specs.declared.option.Option.the-variants.{Some, None}
-use Rattle.frames.specs.Finding.{Found, Finds, Waits, none}
+use Rattle.frames.specs.Finding.{Found, Finds, Begun, none, Waits}
 use Rattle.frames.specs.Reading.{Reads}
 use Rattle.frames.specs.Promises.{Finds-exactly, Reading, placed, Cut-anywhere, One-reading}
 use Rattle.frames.proofs.Holding.{waits-held}
 use Rattle.frames.proofs.Joining.{waits-on, finds-on, finds-before, finds-within}
 use Rattle.frames.proofs.Uniqueness.{finds-once, waits-once, waits-never}
+
+pub uses-within : (held stretch after : List ℕ) (r : Option Found) (used : ℕ) → Reads held stretch r used after → used ≤ length stretch
+uses-within held stretch after (Some v) used reads = reads .0
+uses-within held stretch after None used reads = omega (arith, reads .0)
+
+-- what is held is no finding yet, so a finding uses a byte more
+pub uses-some : (held stretch after : List ℕ) (r : Option Found) (used : ℕ) → Begun held → Reads held stretch r used after → 0 < length stretch → 0 < used
+uses-some held stretch after (Some v) used begun (less, f, rests) some =
+    ⊎-elim (λ pos. pos)
+    (λ zero. absurd (waits-never (waits-held begun)
+      (subst (λ l. Finds l v (length held + used)) (ap (λ k. held ++ take k stretch) (let e : used ≡ 0 = omega arith in e) ∙ append-nil held) f)))
+    (cases-lt 0 used)
+uses-some held stretch after None used begun reads some = omega (arith, reads .0)
 
 pub finds-exactly : (held stretch after : List ℕ) (r : Option Found) (used : ℕ) → Reads held stretch r used after → Finds-exactly held stretch r used
 finds-exactly held stretch after (Some w) used (less, f, rests) v n =

@@ -25,7 +25,8 @@ impl Frame {
     }
 
     pub fn data(&self) -> &[u8]
-        ensures { λ r. ⌜ now r ≡ frame-data (now (self .entry)) ⌝ }
+        ensures bytes { λ r. ⌜ now r ≡ frame-data (now (self .entry)) ⌝ }
+        ensures few { λ r. ⌜ length (now r) ≤ 250 ⌝ }
     {
         &self.bytes[0..self.count]
     }

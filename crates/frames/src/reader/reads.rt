@@ -1,6 +1,7 @@
 // What a reader does.
 ghost use mathlib.Core.Path.{_≡_};
 ghost use mathlib.Core.List.{[]};
+ghost use Prim.Native.Nat.{_≤_, _<_};
 ghost use lib.ListN.{length};
 ghost use Rattle.frames.specs.Promises.{Finds-exactly, Finds-written, Stands-as-written, Cut-anywhere, One-reading};
 ghost use Rattle.frames.specs.Reading.{found, holds, Reads};
@@ -27,6 +28,8 @@ impl Reader {
     // Where nothing is found yet, the whole stretch is used, and what has begun is held for the next call.
     pub fn read(&mut self, stretch: &[u8]) -> (Finding, usize)
         ensures reads { λ r. ⌜ Reads (holds (now (self .entry))) (now (stretch .entry)) (found (r .0)) (r .1) (holds (now (self .exit))) ⌝ }
+        ensures within { λ r. ⌜ r .1 ≤ length (now (stretch .entry)) ⌝ }
+        ensures some { λ r. ⌜ (0 < length (now (stretch .entry)) → 0 < r .1) ⌝ }
         ensures exactly { λ r. ⌜ Finds-exactly (holds (now (self .entry))) (now (stretch .entry)) (found (r .0)) (r .1) ⌝ }
         ensures written { λ r. ⌜ Finds-written (holds (now (self .entry))) (now (stretch .entry)) (found (r .0)) (r .1) ⌝ }
         ensures stands { λ r. ⌜ Stands-as-written (holds (now (self .entry))) (now (stretch .entry)) (found (r .0)) (r .1) ⌝ }

@@ -5,9 +5,9 @@ use lib.ListN.{take}
 use Rattle.std.proofs.shelf.Lists.{take-rest}
 use Rattle.frames.specs.Reading.{Reads, holds, found}
 use Rattle.frames.proofs.ByteLists.{bytes-append, bytes-take}
-use Rattle.frames.proofs.Holding.{bytes-held}
+use Rattle.frames.proofs.Holding.{begun-held, bytes-held}
 use Rattle.frames.proofs.Joining.{reads-on}
-use Rattle.frames.proofs.Exactness.{finds-exactly, cut-anywhere, one-reading}
+use Rattle.frames.proofs.Exactness.{uses-within, uses-some, finds-exactly, cut-anywhere, one-reading}
 use Rattle.frames.proofs.RoundTrip.{finds-written, stands-as-written}
 use Rattle.frames.proofs.reader.Reader.read.Needs as need
 
@@ -26,6 +26,8 @@ returns c =
     let exact = finds-exactly held stretch after r used reads in
     record {
       reads = reads;
+      within = uses-within held stretch after r used reads;
+      some = uses-some held stretch after r used (begun-held (c .args .self .now)) reads;
       exactly = exact;
       written = λ before cmd body rest. finds-written cmd body held stretch before rest r used exact;
       stands = stands-as-written held stretch after r used (bytes-append held (take used stretch) (bytes-held (c .args .self .now)) (bytes-take used stretch (λ i. omega (arith, c .typed .stretch i)))) reads;
