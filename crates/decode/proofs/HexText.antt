@@ -38,3 +38,7 @@ text-more bytes text i a b within room so-far is =
     ∙ (λ j. so-far j ++ (32 ∷ is j))
     ∙ sym (hex-text-more (take i bytes) (getD bytes i 0))
     ∙ ap hex-text (sym (take-more bytes i 0 within))
+
+pub length-hex-text : (bytes : List ℕ) → length (hex-text bytes) ≡ 3 * length bytes
+length-hex-text [] = refl
+length-hex-text (b ∷ bytes) = omega (arith, length-hex-text bytes)

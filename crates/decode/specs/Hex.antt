@@ -20,6 +20,10 @@ abbrev pub hex-text : List ℕ → List ℕ
 hex-text [] = []
 hex-text (b ∷ bs) = 32 ∷ (hex-pair b ++ hex-text bs)
 
+-- a number below 2 ^ 32 as eight digits, the highest first
+abbrev pub hex-eight : ℕ → List ℕ
+hex-eight n = hex-pair (n / 16777216) ++ (hex-pair (n / 65536 % 256) ++ (hex-pair (n / 256 % 256) ++ hex-pair (n % 256)))
+
 abbrev pub both : Bool → Bool → Bool
 both true b = b
 both false b = false

@@ -1,17 +1,13 @@
 // Bytes as hexadecimal text, and hexadecimal text as bytes.
 ghost use mathlib.Core.Path.{_≡_};
-ghost use mathlib.Core.Bool.{cond};
-ghost use mathlib.Core.List.{_++_};
-ghost use Prim.Native.Nat.{_≤_, _<_};
+ghost use Prim.Native.Nat.{_*_, _<_};
 ghost use lib.ListN.{length};
-ghost use Rattle.std.specs.Of.Vec.{vec-items};
-ghost use Rattle.std.specs.Results.{isOk};
 ghost use Rattle.std.specs.Slices.{found};
-ghost use Rattle.decode.specs.Hex.{hex-pair, hex-text, digit-value, Reads-back};
+ghost use Rattle.decode.specs.Hex.{hex-pair, hex-text, hex-eight, digit-value, Reads-back};
 use std::alloc::AllocError;
 use std::alloc::Refused;
 
-const DIGITS: [u8; 16] = *b"0123456789ABCDEF";
+static DIGITS: [u8; 16] = *b"0123456789ABCDEF";
 
 // The two digits of a byte.
 pub fn digits(byte: u8) -> [u8; 2]
@@ -20,19 +16,29 @@ pub fn digits(byte: u8) -> [u8; 2]
     [DIGITS[(byte / 16) as usize], DIGITS[(byte % 16) as usize]]
 }
 
-// Adds the data bytes of a frame to a text, each behind a blank.
-pub fn push_all(out: &mut Vec<u8>, bytes: &[u8]) -> Result<(), AllocError>
-    requires { ⌜ length (now bytes) ≤ 250 ⌝ }
-    ensures { λ r. ⌜ vec-items (now (out .exit)) ≡ cond (isOk r) (vec-items (now (out .entry)) ++ hex-text (now (bytes .entry))) (vec-items (now (out .entry))) ⌝ }
+// Writes bytes as text, each behind a blank, over a place that they fill.
+pub fn write_all(place: &mut [u8], bytes: &[u8])
+    requires { ⌜ length (now place) ≡ 3 * length (now bytes) ⌝ }
+    ensures { λ _. ⌜ now (place .exit) ≡ hex-text (now (bytes .entry)) ⌝ }
 {
-    let mut text = [0; 750];
     for i in 0..bytes.len() {
         let [high, low] = digits(bytes[i]);
-        text[3 * i] = b' ';
-        text[3 * i + 1] = high;
-        text[3 * i + 2] = low;
+        place[3 * i] = b' ';
+        place[3 * i + 1] = high;
+        place[3 * i + 2] = low;
     }
-    out.extend_from_slice(&text[0..3 * bytes.len()])
+}
+
+// A number as eight digits.
+pub fn eight_digits(n: u32) -> [u8; 8]
+    ensures { λ r. ⌜ r ≡ hex-eight n ⌝ }
+{
+    let [a, b, c, d] = n.to_be_bytes();
+    let [a1, a0] = digits(a);
+    let [b1, b0] = digits(b);
+    let [c1, c0] = digits(c);
+    let [d1, d0] = digits(d);
+    [a1, a0, b1, b0, c1, c0, d1, d0]
 }
 
 // What a digit stands for. A digit that `digits` gives reads back as what it was given for.

@@ -6,6 +6,7 @@ mod failure;
 mod hex;
 mod run;
 mod tally;
+mod text;
 
 use failure::Failure;
 use failure::FailureDisplay;

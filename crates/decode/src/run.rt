@@ -1,5 +1,4 @@
 // Reading a capture in stretches and writing what it holds.
-use std::alloc::Global;
 use std::env;
 use std::fs;
 use std::io;
@@ -16,8 +15,9 @@ use super::failure::FailureFromAlloc;
 use super::failure::FailureFromHex;
 use super::failure::FailureFromUse;
 use super::hex::HexText;
+use super::text::Text;
 
-// Bytes read at a time, and bytes of text that are written at a time.
+// Bytes read at a time.
 const STRETCH: usize = 65536;
 
 pub fn run(rt: &LibcRuntime) -> Result<(), Failure> {
@@ -63,10 +63,10 @@ fn decode(rt: &LibcRuntime, capture: Capture) -> Result<(), Failure> {
 fn decode_all<R: Read>(rt: &LibcRuntime, input: &mut R, hex: bool) -> Result<(), Failure> {
     let heap = rt.alloc();
     let mut decoder = Decoder::new();
-    let mut text = HexText::new();
+    let mut digits = HexText::new();
+    let mut text = Text::new();
     let mut buffer = vec![in heap; 0u8; STRETCH]?;
     let mut bytes = Vec::new(heap);
-    let mut out = Vec::new(heap);
     for _ in 0..u64::MAX {
         let count = match input.read(&mut buffer) {
             Ok(count) => count,
@@ -77,25 +77,33 @@ fn decode_all<R: Read>(rt: &LibcRuntime, input: &mut R, hex: bool) -> Result<(),
         }
         if hex {
             bytes.clear();
-            text.read(&buffer[0..count], &mut bytes)?;
-            decoder.read(heap, &bytes, &mut out)?;
+            digits.read(&buffer[0..count], &mut bytes)?;
+            show(rt, &mut decoder, &bytes, &mut text)?;
         } else {
-            decoder.read(heap, &buffer[0..count], &mut out)?;
+            show(rt, &mut decoder, &buffer[0..count], &mut text)?;
         }
-        write_out(rt, &mut out)?;
     }
-    text.end()?;
-    decoder.summary(heap, &mut out)?;
-    write_out(rt, &mut out)
+    digits.end()?;
+    write_out(rt, decoder.summary(heap)?.as_bytes())
 }
 
-// Writes the text so far, and empties it.
-fn write_out(rt: &LibcRuntime, out: &mut Vec<u8>) -> Result<(), Failure> {
-    match rt.stdout().write_all(out.as_slice()) {
-        Ok(()) => {
-            out.clear();
-            Ok(())
+// Decodes a stretch, writing the text whenever no line more has room.
+fn show(rt: &LibcRuntime, decoder: &mut Decoder, stretch: &[u8], text: &mut Text) -> Result<(), Failure> {
+    let mut at = 0;
+    for _ in 0..u64::MAX {
+        at += decoder.read(&stretch[at..], text);
+        write_out(rt, text.as_bytes())?;
+        text.clear();
+        if at == stretch.len() {
+            break;
         }
+    }
+    Ok(())
+}
+
+fn write_out(rt: &LibcRuntime, text: &[u8]) -> Result<(), Failure> {
+    match rt.stdout().write_all(text) {
+        Ok(()) => Ok(()),
         Err(e) => Err(Failure::Write(e)),
     }
 }
