@@ -8,6 +8,9 @@ mod run;
 mod tally;
 mod text;
 
+#[cfg(test)]
+mod tests;
+
 use failure::Failure;
 use failure::FailureDisplay;
 

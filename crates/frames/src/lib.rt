@@ -7,3 +7,6 @@ pub mod reader;
 pub mod refusal;
 pub mod samples;
 pub mod writing;
+
+#[cfg(test)]
+mod tests;
