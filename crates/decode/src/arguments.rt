@@ -38,7 +38,7 @@ pub enum Task {
 }
 
 // Why the arguments make no task.
-#[derive(Drop)]
+#[derive(Debug, Drop)]
 pub enum BadUse {
     UnknownOption(String),
     SecondFile(String),

@@ -1,5 +1,6 @@
 // Bad use and bad text, which a run of the program in the gate cannot show.
 use super::arguments::BadUse;
+use super::arguments::BadUseDebug;
 use super::arguments::Task;
 use super::arguments::parse;
 use super::hex::HexFault;
