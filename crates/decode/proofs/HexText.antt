@@ -22,7 +22,7 @@ three-more text n a b c within =
     let long-two : length two ≡ length text = length-set one (n + 1) b ∙ long-one in
     ap (λ k. take k (set two (n + 2) c)) (let e : n + 3 ≡ n + 2 + 1 = omega arith in e) ∙ take-more-set two (n + 2) c (omega arith)
     ∙ ap (λ l. l ++ (c ∷ [])) (ap (λ k. take k two) (let e : n + 2 ≡ n + 1 + 1 = omega arith in e) ∙ take-more-set one (n + 1) b (omega arith)
-      ∙ ap (λ l. l ++ (b ∷ [])) (take-more-set text n a (omega arith)))
+    ∙ ap (λ l. l ++ (b ∷ [])) (take-more-set text n a (omega arith)))
     ∙ simp append-assoc
 
 hex-text-more : (bytes : List ℕ) (b : ℕ) → hex-text (bytes ++ (b ∷ [])) ≡ hex-text bytes ++ (32 ∷ hex-pair b)
@@ -31,7 +31,7 @@ hex-text-more (x ∷ bytes) b = ap (λ l. 32 ∷ (hex-digit (x / 16) ∷ (hex-di
 
 -- the text of one byte more
 pub text-more : (bytes text : List ℕ) (i a b : ℕ) → i < length bytes → 3 * i + 2 < length text → take (3 * i) text ≡ hex-text (take i bytes) → a ∷ (b ∷ []) ≡ hex-pair (getD bytes i 0)
-  → take (3 * (i + 1)) (set (set (set text (3 * i) 32) (3 * i + 1) a) (3 * i + 2) b) ≡ hex-text (take (i + 1) bytes)
+    → take (3 * (i + 1)) (set (set (set text (3 * i) 32) (3 * i + 1) a) (3 * i + 2) b) ≡ hex-text (take (i + 1) bytes)
 text-more bytes text i a b within room so-far is =
     ap (λ k. take k (set (set (set text (3 * i) 32) (3 * i + 1) a) (3 * i + 2) b)) (let e : 3 * (i + 1) ≡ 3 * i + 3 = omega arith in e)
     ∙ three-more text (3 * i) 32 a b room

@@ -1,17 +1,16 @@
 // Bytes of a capture to lines of text.
 ghost use Prim.Native.Nat.{_≤_};
 ghost use lib.ListN.{length};
+use super::command;
+use super::hex;
+use super::tally::Tally;
+use super::text::Text;
 use frames::finding::Cause;
 use frames::finding::Finding;
 use frames::frame::Frame;
 use frames::reader::Reader;
 use std::alloc::AllocError;
 use std::alloc::Global;
-
-use super::command;
-use super::hex;
-use super::tally::Tally;
-use super::text::Text;
 
 #[derive(Drop)]
 pub struct Decoder {
@@ -21,7 +20,10 @@ pub struct Decoder {
 
 impl Decoder {
     pub fn new() -> Decoder {
-        Decoder { reader: Reader::new(), tally: Tally::new() }
+        Decoder {
+            reader: Reader::new(),
+            tally: Tally::new(),
+        }
     }
 
     // Adds a line to the text for each thing that a stretch of the capture completes, until the text has no room for
@@ -49,7 +51,12 @@ impl Decoder {
             }
             Finding::Dropped { cause, size } => {
                 self.tally.drop(*cause, *size as u64);
-                drop_line(self.tally.bytes.saturating_sub(*size as u64), *cause, *size, text);
+                drop_line(
+                    self.tally.bytes.saturating_sub(*size as u64),
+                    *cause,
+                    *size,
+                    text,
+                );
             }
             Finding::Nothing => {}
         }

@@ -86,7 +86,10 @@ pub struct HexText {
 
 impl HexText {
     pub fn new() -> HexText {
-        HexText { high: None, place: 0 }
+        HexText {
+            high: None,
+            place: 0,
+        }
     }
 
     // Adds the bytes that a stretch of text completes.
@@ -97,7 +100,10 @@ impl HexText {
                 continue;
             }
             let Some(digit) = value(*c) else {
-                return Err(HexFault::NoDigit { place: self.place, found: *c });
+                return Err(HexFault::NoDigit {
+                    place: self.place,
+                    found: *c,
+                });
             };
             match self.high {
                 None => self.high = Some(digit),

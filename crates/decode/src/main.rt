@@ -6,10 +6,9 @@ mod failure;
 mod hex;
 mod run;
 mod tally;
-mod text;
-
 #[cfg(test)]
 mod tests;
+mod text;
 
 use failure::Failure;
 use failure::FailureDisplay;

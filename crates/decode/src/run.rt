@@ -1,10 +1,4 @@
 // Reading a capture in stretches and writing what it holds.
-use std::env;
-use std::fs;
-use std::io;
-use std::io::Read;
-use std::io::Write;
-
 use super::arguments::Capture;
 use super::arguments::HELP;
 use super::arguments::Task;
@@ -16,6 +10,11 @@ use super::failure::FailureFromHex;
 use super::failure::FailureFromUse;
 use super::hex::HexText;
 use super::text::Text;
+use std::env;
+use std::fs;
+use std::io;
+use std::io::Read;
+use std::io::Write;
 
 // Bytes read at a time.
 const STRETCH: usize = 65536;
@@ -88,7 +87,12 @@ fn decode_all<R: Read>(rt: &LibcRuntime, input: &mut R, hex: bool) -> Result<(),
 }
 
 // Decodes a stretch, writing the text whenever no line more has room.
-fn show(rt: &LibcRuntime, decoder: &mut Decoder, stretch: &[u8], text: &mut Text) -> Result<(), Failure> {
+fn show(
+    rt: &LibcRuntime,
+    decoder: &mut Decoder,
+    stretch: &[u8],
+    text: &mut Text,
+) -> Result<(), Failure> {
     let mut at = 0;
     for _ in 0..u64::MAX {
         at += decoder.read(&stretch[at..], text);

@@ -19,7 +19,14 @@ pub struct Tally {
 
 impl Tally {
     pub fn new() -> Tally {
-        Tally { bytes: 0, used: 0, frames: [0; 256], length: 0, end: 0, check: 0 }
+        Tally {
+            bytes: 0,
+            used: 0,
+            frames: [0; 256],
+            length: 0,
+            end: 0,
+            check: 0,
+        }
     }
 
     // A frame with this command, of so many bytes.
@@ -56,7 +63,9 @@ impl Tally {
     }
 
     pub fn all_drops(&self) -> u64 {
-        self.length.saturating_add(self.end).saturating_add(self.check)
+        self.length
+            .saturating_add(self.end)
+            .saturating_add(self.check)
     }
 
     // The bytes that belong to nothing, where so many are still held at the end.

@@ -17,7 +17,13 @@ fn reads_hex_in_stretches(rt: LibcRuntime) -> Result<(), Fail> {
     check(text.read(b"2\n", &mut bytes).is_ok())?;
     check(text.end().is_ok())?;
     check(matches!(bytes.as_slice(), [0xFF, 0x02]))?;
-    check(matches!(text.read(b"0x", &mut bytes), Err(HexFault::NoDigit { place: 8, found: b'x' })))
+    check(matches!(
+        text.read(b"0x", &mut bytes),
+        Err(HexFault::NoDigit {
+            place: 8,
+            found: b'x'
+        })
+    ))
 }
 
 #[test]

@@ -7,6 +7,7 @@ mod pushes;
 
 // How many bytes of text are gathered at most, and how many a line may need.
 pub const MOST: usize = 65536;
+
 pub const LINE: usize = 1024;
 
 #[derive(Drop)]

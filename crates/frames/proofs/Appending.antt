@@ -41,7 +41,7 @@ module _ (memory body : List ℕ) (cmd : ℕ) (room : length body + 7 ≤ length
 
   -- header and DATA
   pub filled : (copied : List ℕ) → copied ≡ body
-    → putMid 4 (n + 4 - 4) (set (set (set (set memory 0 0xFF) 1 0x02) 2 (n + 4)) 3 cmd) copied ≡ (header ++ body) ++ drop (n + 4) memory
+      → putMid 4 (n + 4 - 4) (set (set (set (set memory 0 0xFF) 1 0x02) 2 (n + 4)) 3 cmd) copied ≡ (header ++ body) ++ drop (n + 4) memory
   filled copied is =
       then-bytes memory header 4 refl _ copied (n + 4 - 4) headed
       ∙ (λ i. (header ++ is i) ++ drop ((let k : 4 + (n + 4 - 4) ≡ n + 4 = omega arith in k) i) memory)
@@ -52,7 +52,7 @@ module _ (memory body : List ℕ) (cmd : ℕ) (room : length body + 7 ≤ length
 
   -- the check value and ETX behind them
   pub closed : (now : List ℕ) (value : ℕ) → now ≡ (header ++ body) ++ drop (n + 4) memory → value ≡ crc-of (covered cmd body)
-    → set (set (set now (n + 4) (value % 256)) (n + 5) (value / 256)) (n + 6) 0x03 ≡ frame-bytes cmd body ++ drop (n + 7) memory
+      → set (set (set now (n + 4) (value % 256)) (n + 5) (value / 256)) (n + 6) 0x03 ≡ frame-bytes cmd body ++ drop (n + 7) memory
   closed now value is right =
       let low = value % 256 in
       let high = value / 256 in

@@ -45,13 +45,13 @@ once-linear : (a b : ℕ) → shift-once (bitXor a b) ≡ bitXor (shift-once a) 
 once-linear a b =
     ⊎-elim
     (λ ea. ⊎-elim
-      (λ eb. even (bitXor a b) (low a b ∙ (λ i. bitXor (ea i) (eb i))) ∙ rest a b ∙ sym (λ i. bitXor (even a ea i) (even b eb i)))
-      (λ eb. odd (bitXor a b) (low a b ∙ (λ i. bitXor (ea i) (eb i))) ∙ ap (λ x. bitXor x 0x8408) (rest a b) ∙ xor-assoc (a / 2) (b / 2) 0x8408 ∙ sym (λ i. bitXor (even a ea i) (odd b eb i)))
-      (bit b))
+    (λ eb. even (bitXor a b) (low a b ∙ (λ i. bitXor (ea i) (eb i))) ∙ rest a b ∙ sym (λ i. bitXor (even a ea i) (even b eb i)))
+    (λ eb. odd (bitXor a b) (low a b ∙ (λ i. bitXor (ea i) (eb i))) ∙ ap (λ x. bitXor x 0x8408) (rest a b) ∙ xor-assoc (a / 2) (b / 2) 0x8408 ∙ sym (λ i. bitXor (even a ea i) (odd b eb i)))
+    (bit b))
     (λ ea. ⊎-elim
-      (λ eb. odd (bitXor a b) (low a b ∙ (λ i. bitXor (ea i) (eb i))) ∙ ap (λ x. bitXor x 0x8408) (rest a b) ∙ sym (swap (a / 2) (b / 2) 0x8408) ∙ sym (λ i. bitXor (odd a ea i) (even b eb i)))
-      (λ eb. even (bitXor a b) (low a b ∙ (λ i. bitXor (ea i) (eb i))) ∙ rest a b ∙ sym (cancel (a / 2) (b / 2) 0x8408) ∙ sym (λ i. bitXor (odd a ea i) (odd b eb i)))
-      (bit b))
+    (λ eb. odd (bitXor a b) (low a b ∙ (λ i. bitXor (ea i) (eb i))) ∙ ap (λ x. bitXor x 0x8408) (rest a b) ∙ sym (swap (a / 2) (b / 2) 0x8408) ∙ sym (λ i. bitXor (odd a ea i) (even b eb i)))
+    (λ eb. even (bitXor a b) (low a b ∙ (λ i. bitXor (ea i) (eb i))) ∙ rest a b ∙ sym (cancel (a / 2) (b / 2) 0x8408) ∙ sym (λ i. bitXor (odd a ea i) (odd b eb i)))
+    (bit b))
     (bit a)
 
 linear : (n a b : ℕ) → shift n (bitXor a b) ≡ bitXor (shift n a) (shift n b)
@@ -88,7 +88,7 @@ module _ (value byte : ℕ) (small : byte < 256) where
 
   -- a table of eight shifts gives the next value
   pub by-table : (table : List ℕ) → table ≡ map (shift 8) (counting 0 256)
-    → bitXor (value / 256) (getD table (bitXor (bitAnd value 255) byte) 0) ≡ crc-byte value byte
+      → bitXor (value / 256) (getD table (bitXor (bitAnd value 255) byte) 0) ≡ crc-byte value byte
   by-table table rule =
       ap (λ t. bitXor (value / 256) (getD t (bitXor (bitAnd value 255) byte) 0)) rule
       ∙ ap (bitXor (value / 256)) (getD-map-counting (shift 8) 0 256 _ (bitXor (bitAnd value 255) byte) 0 place-small (omega arith))

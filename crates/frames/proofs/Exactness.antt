@@ -25,7 +25,7 @@ pub uses-some : (held stretch after : List ℕ) (r : Option Found) (used : ℕ) 
 uses-some held stretch after (Some v) used begun (less, f, rests) some =
     ⊎-elim (λ pos. pos)
     (λ zero. absurd (waits-never (waits-held begun)
-      (subst (λ l. Finds l v (length held + used)) (ap (λ k. held ++ take k stretch) (let e : used ≡ 0 = omega arith in e) ∙ append-nil held) f)))
+    (subst (λ l. Finds l v (length held + used)) (ap (λ k. held ++ take k stretch) (let e : used ≡ 0 = omega arith in e) ∙ append-nil held) f)))
     (cases-lt 0 used)
 uses-some held stretch after None used begun reads some = omega (arith, reads .0)
 
@@ -43,7 +43,7 @@ finds-exactly held stretch after None used (whole, waits) v n = (
 
 -- the findings so far, and this one behind them
 continues : (from : ℕ) (bytes held stretch after : List ℕ) (r : Option Found) (used : ℕ) (findings : List (ℕ × Found)) → Reads held stretch r used after
-  → Reading from bytes findings held → Reading from (bytes ++ take used stretch) (findings ++ placed (from + (length bytes + used)) r) after
+    → Reading from bytes findings held → Reading from (bytes ++ take used stretch) (findings ++ placed (from + (length bytes + used)) r) after
 continues from bytes held stretch after (Some v) used [] (less, f, rests) w =
     let long : length (bytes ++ take used stretch) ≡ length bytes + used = length-append bytes (take used stretch) ∙ ap (λ k. length bytes + k) (length-take-le used stretch less) in (
       length bytes + used,
@@ -60,7 +60,7 @@ continues from bytes held stretch after r used ((place, v) ∷ findings) reads (
       at,
       finds-before (take used stretch) f,
       subst (λ l. Reading place l (findings ++ placed (from + (length bytes + used)) r) after) (sym (drop-append-le n bytes (take used stretch) within))
-      (subst (λ k. Reading place (drop n bytes ++ take used stretch) (findings ++ placed k r) after) count (continues place (drop n bytes) held stretch after r used findings reads rest)),
+          (subst (λ k. Reading place (drop n bytes ++ take used stretch) (findings ++ placed k r) after) count (continues place (drop n bytes) held stretch after r used findings reads rest)),
     )
 
 pub cut-anywhere : (held stretch after : List ℕ) (r : Option Found) (used : ℕ) → Reads held stretch r used after → Cut-anywhere held stretch r used after
@@ -68,7 +68,7 @@ cut-anywhere held stretch after r used reads bytes findings so-far =
     subst (λ k. Reading 0 (bytes ++ take used stretch) (findings ++ placed k r) after) (omega arith) (continues 0 bytes held stretch after r used findings reads so-far)
 
 same-reading : (from : ℕ) (bytes : List ℕ) (findings others : List (ℕ × Found)) (held after : List ℕ) → Reading from bytes findings held → Reading from bytes others after
-  → (findings ≡ others) × (held ≡ after)
+    → (findings ≡ others) × (held ≡ after)
 same-reading from bytes [] [] held after w v = (refl, waits-once w v)
 same-reading from bytes [] ((place, v) ∷ others) held after w (n, at, f, rest) = absurd (waits-never w f)
 same-reading from bytes ((place, v) ∷ findings) [] held after (n, at, f, rest) w = absurd (waits-never w f)

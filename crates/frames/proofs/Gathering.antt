@@ -23,7 +23,7 @@ module _ (n : ℕ) (got stretch : List ℕ) (fits : Sized n) where
 
   -- enough bytes: the candidate is judged
   pub gathers-all : (m : ℕ) (r : Option Found) → length got + m ≡ n → m ≤ length stretch → r ≡ Some (verdict n (got ++ take m stretch))
-    → Reads (0xFF ∷ (0x02 ∷ (n ∷ got))) stretch r m []
+      → Reads (0xFF ∷ (0x02 ∷ (n ∷ got))) stretch r m []
   gathers-all m r enough within is = subst (λ o. Reads (0xFF ∷ (0x02 ∷ (n ∷ got))) stretch o m []) (sym is) (
     within,
     record {
@@ -40,13 +40,13 @@ module _ (n : ℕ) (got stretch : List ℕ) (fits : Sized n) where
 
 -- what reading comes to, once the stage is known
 pub reads-at : (r : Reader) (s : Stage) (stretch after : List ℕ) (f : Option Found) (used : ℕ) → r .stage ≡ s
-  → Reads (begun s (r .length) (take (r .got) (r .body))) stretch f used after → Reads (holds r) stretch f used after
+    → Reads (begun s (r .length) (take (r .got) (r .body))) stretch f used after → Reads (holds r) stretch f used after
 reads-at r s stretch after f used e = subst (λ t. Reads (begun t (r .length) (take (r .got) (r .body))) stretch f used after) (sym e)
 
 -- the bytes of a stretch that is too short are held behind those that were
 pub gathers-held : (r : Reader) (stretch body : List ℕ) → r .stage ≡ Body → r .got + length stretch < r .length → length (take (r .got) (r .body)) ≡ r .got
-  → take (r .got + length stretch) body ≡ take (r .got) (r .body) ++ stretch
-  → Waits (holds r ++ stretch) (begun (r .stage) (r .length) (take (r .got + length stretch) body))
+    → take (r .got + length stretch) body ≡ take (r .got) (r .body) ++ stretch
+    → Waits (holds r ++ stretch) (begun (r .stage) (r .length) (take (r .got + length stretch) body))
 gathers-held r stretch body e few long taken =
     subst (λ s. Waits (begun s (r .length) (take (r .got) (r .body)) ++ stretch) (begun s (r .length) (take (r .got + length stretch) body))) (sym e)
     (subst (λ l. Waits (0xFF ∷ (0x02 ∷ (r .length ∷ (take (r .got) (r .body) ++ stretch)))) (0xFF ∷ (0x02 ∷ (r .length ∷ l)))) (sym taken)
@@ -58,21 +58,27 @@ judged-as n bytes body r is long same = is ∙ (λ i. Some (verdict (long i) (sa
 
 -- a LENGTH that no frame has ends the candidate
 pub drops-length : (r after : Reader) (stretch : List ℕ) → r .stage ≡ Start → after .stage ≡ Hunting → 0 < length stretch → (Sized (getD stretch 0 0) → ⊥)
-  → Reads (holds r) stretch (Some (dropped Length 3)) 1 (holds after)
+    → Reads (holds r) stretch (Some (dropped Length 3)) 1 (holds after)
 drops-length r after [] at-start rests some small = absurd (omega arith)
 drops-length r after (n ∷ more) at-start rests some small =
     reads-at r Start (n ∷ more) (holds after) (Some (dropped Length 3)) 1 at-start (
       omega arith,
       record {
-        noise = []; candidate = 0xFF ∷ (0x02 ∷ (n ∷ [])); rest = []; split = refl; quiet = tt; judged = misfit n refl small refl; counted = refl;
+        noise = [];
+        candidate = 0xFF ∷ (0x02 ∷ (n ∷ []));
+        rest = [];
+        split = refl;
+        quiet = tt;
+        judged = misfit n refl small refl;
+        counted = refl;
       },
       ap (λ s. begun s (after .length) (take (after .got) (after .body))) rests,
     )
 
 -- a LENGTH that a frame can have is held, and the rest of the stretch is gathered
 pub goes-on : (r measured : Reader) (stretch after : List ℕ) (f : Option Found) (used : ℕ) → r .stage ≡ Start → 0 < length stretch → Sized (getD stretch 0 0)
-  → (measured .stage ≡ Body) × (measured .length ≡ getD stretch 0 0) × (measured .got ≡ 0)
-  → Reads (holds measured) (drop 1 stretch) f used after → Reads (holds r) stretch f (1 + used) after
+    → (measured .stage ≡ Body) × (measured .length ≡ getD stretch 0 0) × (measured .got ≡ 0)
+    → Reads (holds measured) (drop 1 stretch) f used after → Reads (holds r) stretch f (1 + used) after
 goes-on r measured [] after f used at-start some fits is reads = absurd (omega arith)
 goes-on r measured (n ∷ more) after f used at-start some fits is reads =
     reads-on (holds r) (holds measured) after (n ∷ more) 1 used f (omega arith)

@@ -21,10 +21,10 @@ module _ {bytes held : List ℕ} (w : Waits bytes held) where
   behind : (more : List ℕ) (y : ℕ) (ys : List ℕ) → held ++ more ≡ y ∷ ys → Quiet (w .noise ++ (y ∷ []))
   behind more y ys e =
       elim (w .begun) [
-        none h ↦ quiet-settled (w .noise) y (w .settled h)
-      | sync h ↦ let z : y ≡ 0xFF = cc in rw z (quiet-sync (w .noise) (w .quiet))
-      | start h ↦ let z : y ≡ 0xFF = cc in rw z (quiet-sync (w .noise) (w .quiet))
-      | part n body h s l ↦ let z : y ≡ 0xFF = cc in rw z (quiet-sync (w .noise) (w .quiet))
+        | none h ↦ quiet-settled (w .noise) y (w .settled h)
+        | sync h ↦ let z : y ≡ 0xFF = cc in rw z (quiet-sync (w .noise) (w .quiet))
+        | start h ↦ let z : y ≡ 0xFF = cc in rw z (quiet-sync (w .noise) (w .quiet))
+        | part n body h s l ↦ let z : y ≡ 0xFF = cc in rw z (quiet-sync (w .noise) (w .quiet))
       ]
 
   longer-noise : (more noise rest : List ℕ) → held ++ more ≡ noise ++ rest → Quiet noise → Quiet (w .noise ++ noise)
@@ -43,36 +43,36 @@ module _ {bytes held : List ℕ} (w : Waits bytes held) where
   -- nothing yet, and nothing yet behind it
   pub waits-on : (more after : List ℕ) → Waits (held ++ more) after → Waits (bytes ++ more) after
   waits-on more after v = record {
-      noise = w .noise ++ v .noise;
-      split = split-on more (v .noise) after (v .split);
-      quiet = longer-noise more (v .noise) after (v .split) (v .quiet);
-      settled = λ h. settled-on more (v .noise) after (v .split) h (v .settled h);
-      begun = v .begun;
-    }
+    noise = w .noise ++ v .noise;
+    split = split-on more (v .noise) after (v .split);
+    quiet = longer-noise more (v .noise) after (v .split) (v .quiet);
+    settled = λ h. settled-on more (v .noise) after (v .split) h (v .settled h);
+    begun = v .begun;
+  }
 
   -- nothing yet, and then a finding
   pub finds-on : (more : List ℕ) (v : Found) (used : ℕ) → Finds (held ++ more) v (length held + used) → Finds (bytes ++ more) v (length bytes + used)
   finds-on more v used f = record {
-      noise = w .noise ++ f .noise;
-      candidate = f .candidate;
-      rest = f .rest;
-      split = split-on more (f .noise) (f .candidate ++ f .rest) (f .split);
-      quiet = longer-noise more (f .noise) (f .candidate ++ f .rest) (f .split) (f .quiet);
-      judged = f .judged;
-      counted = omega (arith, length-append (w .noise) (f .noise), length-append (w .noise) held, ap length (w .split), f .counted);
-    }
+    noise = w .noise ++ f .noise;
+    candidate = f .candidate;
+    rest = f .rest;
+    split = split-on more (f .noise) (f .candidate ++ f .rest) (f .split);
+    quiet = longer-noise more (f .noise) (f .candidate ++ f .rest) (f .split) (f .quiet);
+    judged = f .judged;
+    counted = omega (arith, length-append (w .noise) (f .noise), length-append (w .noise) held, ap length (w .split), f .counted);
+  }
 
 -- a finding stays where more bytes follow
 pub finds-before : {bytes : List ℕ} {v : Found} {used : ℕ} (more : List ℕ) → Finds bytes v used → Finds (bytes ++ more) v used
 finds-before more f = record {
-    noise = f .noise;
-    candidate = f .candidate;
-    rest = f .rest ++ more;
-    split = ap (λ l. l ++ more) (f .split) ∙ simp append-assoc;
-    quiet = f .quiet;
-    judged = f .judged;
-    counted = f .counted;
-  }
+  noise = f .noise;
+  candidate = f .candidate;
+  rest = f .rest ++ more;
+  split = ap (λ l. l ++ more) (f .split) ∙ simp append-assoc;
+  quiet = f .quiet;
+  judged = f .judged;
+  counted = f .counted;
+}
 
 -- a finding uses no more bytes than there are
 pub finds-within : {bytes : List ℕ} {v : Found} {used : ℕ} → Finds bytes v used → used ≤ length bytes
@@ -84,11 +84,11 @@ parts before stretch n used = append-assoc before (take n stretch) (take used (d
 
 -- a stretch read in two parts: nothing is found in the first, and the second is read on
 pub reads-on : (before between after stretch : List ℕ) (n used : ℕ) (r : Option Found) → n ≤ length stretch → Waits (before ++ take n stretch) between
-  → Reads between (drop n stretch) r used after → Reads before stretch r (n + used) after
+    → Reads between (drop n stretch) r used after → Reads before stretch r (n + used) after
 reads-on before between after stretch n used (Some v) within w (less, f, empty) = (
   omega (arith, length-drop n stretch),
   subst (λ l. Finds l v (length before + (n + used))) (parts before stretch n used)
-  (subst (Finds _ v) (omega (arith, length-append before (take n stretch), length-take-le n stretch within)) (finds-on w (take used (drop n stretch)) v used f)),
+      (subst (Finds _ v) (omega (arith, length-append before (take n stretch), length-take-le n stretch within)) (finds-on w (take used (drop n stretch)) v used f)),
   empty,
 )
 reads-on before between after stretch n used None within w (all, v) = (

@@ -55,22 +55,22 @@ module _ (cmd : ℕ) (body : List ℕ) where
   -- a frame and what follows it
   frame-found : (rest : List ℕ) → length body ≤ 250 → Finds (frame-bytes cmd body ++ rest) (frame cmd body) (length (frame-bytes cmd body))
   frame-found rest few = record {
-      noise = [];
-      candidate = frame-bytes cmd body;
-      rest = rest;
-      split = refl;
-      quiet = tt;
-      judged = whole (length body + 4) announced refl (omega arith, omega arith) long (sym judged-right);
-      counted = sym (zero-add _);
-    }
+    noise = [];
+    candidate = frame-bytes cmd body;
+    rest = rest;
+    split = refl;
+    quiet = tt;
+    judged = whole (length body + 4) announced refl (omega arith, omega arith) long (sym judged-right);
+    counted = sym (zero-add _);
+  }
 
   pub finds-written : (held stretch before rest : List ℕ) (r : Option Found) (used : ℕ) → Finds-exactly held stretch r used → length body ≤ 250 → Waits (held ++ before) []
-    → stretch ≡ before ++ (frame-bytes cmd body ++ rest) → (r ≡ Some (frame cmd body)) × (used ≡ length before + length (frame-bytes cmd body))
+      → stretch ≡ before ++ (frame-bytes cmd body ++ rest) → (r ≡ Some (frame cmd body)) × (used ≡ length before + length (frame-bytes cmd body))
   finds-written held stretch before rest r used exact few hunting is =
       let size = length (frame-bytes cmd body) in
       let joined = append-assoc held before (frame-bytes cmd body ++ rest) ∙ ap (λ l. held ++ l) (sym is) in
       let here = subst (λ l. Finds l (frame cmd body) (length (held ++ before) + size)) joined
-          (finds-on hunting (frame-bytes cmd body ++ rest) (frame cmd body) size (subst (Finds _ (frame cmd body)) (sym (zero-add size)) (frame-found rest few))) in
+      (finds-on hunting (frame-bytes cmd body ++ rest) (frame cmd body) size (subst (Finds _ (frame cmd body)) (sym (zero-add size)) (frame-found rest few))) in
       let told = exact (frame cmd body) (length (held ++ before) + size) .0 here in
       (told .0, omega (arith, told .1, length-append held before))
 
@@ -80,7 +80,7 @@ last-three n bs long enough =
     drop-more bs (n - 3) 0 (omega arith)
     ∙ ap (λ l. getD bs (n - 3) 0 ∷ l) (ap (λ k. drop k bs) (let e : n - 3 + 1 ≡ n - 2 = omega arith in e) ∙ drop-more bs (n - 2) 0 (omega arith))
     ∙ ap (λ l. getD bs (n - 3) 0 ∷ (getD bs (n - 2) 0 ∷ l))
-      (ap (λ k. drop k bs) (let e : n - 2 + 1 ≡ n - 1 = omega arith in e) ∙ drop-more bs (n - 1) 0 (omega arith) ∙ ap (λ l. getD bs (n - 1) 0 ∷ l) (drop-all (n - 1 + 1) bs (omega arith)))
+    (ap (λ k. drop k bs) (let e : n - 2 + 1 ≡ n - 1 = omega arith in e) ∙ drop-more bs (n - 1) 0 (omega arith) ∙ ap (λ l. getD bs (n - 1) 0 ∷ l) (drop-all (n - 1 + 1) bs (omega arith)))
 
 -- a drop is no frame
 no-frame : (cmd : ℕ) (body : List ℕ) (cause : Cause) (size : ℕ) → frame cmd body ≡ dropped cause size → ⊥
@@ -89,13 +89,13 @@ no-frame cmd body cause size e = let z : _≡_ {A = ℕ} 0 1 = cc in omega arith
 module _ (n : ℕ) (bs : List ℕ) (fits : Sized n) (long : length bs ≡ n) (small : Bytes bs) where
   -- only the last way of the verdict is a frame
   only-right : (cmd : ℕ) (body : List ℕ) → frame cmd body ≡ verdict n bs
-    → (getD bs (n - 1) 0 ≡ 0x03) × (stored-in n bs ≡ crc-of (n ∷ take (n - 3) bs)) × (cmd ≡ getD bs 0 0) × (body ≡ drop 1 (take (n - 3) bs))
+      → (getD bs (n - 1) 0 ≡ 0x03) × (stored-in n bs ≡ crc-of (n ∷ take (n - 3) bs)) × (cmd ≡ getD bs 0 0) × (body ≡ drop 1 (take (n - 3) bs))
   only-right cmd body is =
       ⊎-elim
       (λ ends. ⊎-elim
-        (λ right. let same = is ∙ verdict-right n bs ends right in (ends, right, cc same, cc same))
-        (λ wrong. absurd (no-frame cmd body _ _ (is ∙ verdict-check n bs ends wrong)))
-        (cases-eq (stored-in n bs) (crc-of (n ∷ take (n - 3) bs))))
+      (λ right. let same = is ∙ verdict-right n bs ends right in (ends, right, cc same, cc same))
+      (λ wrong. absurd (no-frame cmd body _ _ (is ∙ verdict-check n bs ends wrong)))
+      (cases-eq (stored-in n bs) (crc-of (n ∷ take (n - 3) bs))))
       (λ wrong. absurd (no-frame cmd body _ _ (is ∙ verdict-end n bs wrong)))
       (cases-eq (getD bs (n - 1) 0) 0x03)
 
@@ -109,7 +109,7 @@ module _ (n : ℕ) (bs : List ℕ) (fits : Sized n) (long : length bs ≡ n) (sm
       let low : getD bs (n - 3) 0 ≡ crc-of (covered cmd body) % 256 = omega (arith, small (n - 3), value-is) in
       let high : getD bs (n - 2) 0 ≡ crc-of (covered cmd body) / 256 = omega (arith, small (n - 3), value-is) in
       let split : bs ≡ (cmd ∷ body) ++ (getD bs (n - 3) 0 ∷ (getD bs (n - 2) 0 ∷ (getD bs (n - 1) 0 ∷ []))) =
-          sym (take-append-drop (n - 3) bs) ∙ (λ i. top i ++ last-three n bs long (fits .0) i) in
+      sym (take-append-drop (n - 3) bs) ∙ (λ i. top i ++ last-three n bs long (fits .0) i) in
       (λ i. 0xFF ∷ (0x02 ∷ (size i ∷ split i))) ∙ (λ i. 0xFF ∷ (0x02 ∷ ((length body + 4) ∷ ((cmd ∷ body) ++ (low i ∷ (high i ∷ (ends i ∷ [])))))))
 
 -- the bytes of a candidate that is a frame
@@ -119,7 +119,7 @@ candidate-as-written cmd body small (whole n bs e fits long is) =
     e ∙ as-written n bs fits long (bytes-back (0xFF ∷ (0x02 ∷ (n ∷ []))) bs (subst Bytes e small)) cmd body is
 
 pub stands-as-written : (held stretch after : List ℕ) (r : Option Found) (used : ℕ) → Bytes (held ++ take used stretch) → Reads held stretch r used after
-  → Stands-as-written held stretch r used
+    → Stands-as-written held stretch r used
 stands-as-written held stretch after None used small reads cmd body is = absurd (let z : _≡_ {A = ℕ} 0 1 = cc in omega arith)
 stands-as-written held stretch after (Some v) used small (less, f, rests) cmd body is =
     let read = f .split in

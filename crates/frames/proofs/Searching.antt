@@ -80,7 +80,7 @@ first [] = inl tt
 first (a ∷ []) = inl tt
 first (a ∷ b ∷ bytes) =
     let go : (a ≡ 0xFF → b ≡ 0x02 → ⊥) → Quiet (a ∷ b ∷ bytes) ⊎ First (a ∷ b ∷ bytes) =
-        λ apart. ⊎-elim (λ q. inl (apart, q)) (λ f. inr (later a b bytes apart f)) (first (b ∷ bytes)) in
+    λ apart. ⊎-elim (λ q. inl (apart, q)) (λ f. inr (later a b bytes apart f)) (first (b ∷ bytes)) in
     ⊎-elim
     (λ e. ⊎-elim (λ f. inr (record { noise = []; rest = bytes; split = λ i. e i ∷ (f i ∷ bytes); quiet = tt })) (λ f. go (λ x y. f y)) (cases-eq b 0x02))
     (λ e. go (λ x y. e x))
@@ -149,8 +149,8 @@ search-finds bytes v used is =
     ⊎-elim
     (λ q. absurd (never-some _ (sym (search-quiet 0 bytes q) ∙ is)))
     (λ f. subst (λ l. Finds l v used) (sym (f .split))
-      (at-first (f .noise) (f .rest) v used (f .quiet)
-      (ap (λ k. judge-at k (f .rest)) (sym (zero-add (length (f .noise)))) ∙ sym (search-noise 0 (f .noise) (f .rest) (f .quiet)) ∙ ap (search-from 0) (sym (f .split)) ∙ is)))
+    (at-first (f .noise) (f .rest) v used (f .quiet)
+    (ap (λ k. judge-at k (f .rest)) (sym (zero-add (length (f .noise)))) ∙ sym (search-noise 0 (f .noise) (f .rest) (f .quiet)) ∙ ap (search-from 0) (sym (f .split)) ∙ is)))
     (first bytes)
 
 pub search-is-the-rule : Search-is-the-rule

@@ -28,15 +28,21 @@ pub record Opened (bytes : List ℕ) (v : Found) (used : ℕ) : Type 0 where
 pub opened : {bytes : List ℕ} {v : Found} {used : ℕ} → Finds bytes v used → Opened bytes v used
 opened {bytes} {v} {used} f =
     elim (f .judged) [
-      misfit n is small says ↦ record {
-        noise = f .noise; size = n; tail = f .rest; many = 3;
+      | misfit n is small says ↦ record {
+        noise = f .noise;
+        size = n;
+        tail = f .rest;
+        many = 3;
         split = f .split ∙ ap (λ l. f .noise ++ (l ++ f .rest)) is;
         quiet = f .quiet;
         judged = unfit small says refl;
         counted = f .counted ∙ ap (λ l. length (f .noise) + length l) is;
       }
-    | whole n body is fits long says ↦ record {
-        noise = f .noise; size = n; tail = body ++ f .rest; many = n + 3;
+      | whole n body is fits long says ↦ record {
+        noise = f .noise;
+        size = n;
+        tail = body ++ f .rest;
+        many = n + 3;
         split = f .split ∙ ap (λ l. f .noise ++ (l ++ f .rest)) is;
         quiet = f .quiet;
         judged = full fits (omega (arith, length-append body (f .rest))) (says ∙ ap (verdict n) (sym (take-at body (f .rest) n long))) refl;
@@ -70,10 +76,10 @@ data Shape (bytes held : List ℕ) : Type 0 where
 shape : {bytes held : List ℕ} → Waits bytes held → Shape bytes held
 shape {bytes} {held} w =
     elim (w .begun) [
-      none h ↦ clear (subst (λ l. Quiet (l ++ (0x02 ∷ []))) (sym (w .split ∙ ap (λ l. w .noise ++ l) h ∙ append-nil (w .noise))) (w .settled h)) h
-    | sync h ↦ let e = w .split ∙ ap (λ l. w .noise ++ l) h in lone (w .noise) e (subst Quiet (sym e) (quiet-sync (w .noise) (w .quiet))) h
-    | start h ↦ mark (w .noise) [] (w .split ∙ ap (λ l. w .noise ++ l) h) (w .quiet) h
-    | part n body h s l ↦ mark (w .noise) (n ∷ body) (w .split ∙ ap (λ l. w .noise ++ l) h) (w .quiet) h
+      | none h ↦ clear (subst (λ l. Quiet (l ++ (0x02 ∷ []))) (sym (w .split ∙ ap (λ l. w .noise ++ l) h ∙ append-nil (w .noise))) (w .settled h)) h
+      | sync h ↦ let e = w .split ∙ ap (λ l. w .noise ++ l) h in lone (w .noise) e (subst Quiet (sym e) (quiet-sync (w .noise) (w .quiet))) h
+      | start h ↦ mark (w .noise) [] (w .split ∙ ap (λ l. w .noise ++ l) h) (w .quiet) h
+      | part n body h s l ↦ mark (w .noise) (n ∷ body) (w .split ∙ ap (λ l. w .noise ++ l) h) (w .quiet) h
     ]
 
 -- a start of a candidate and quiet bytes exclude each other
@@ -111,9 +117,9 @@ pub waits-never : {bytes held : List ℕ} {v : Found} {used : ℕ} → Waits byt
 waits-never {bytes} {held} w f =
     let o = opened f in
     elim (shape w) [
-      clear q h ↦ no-mark (o .noise) (o .size ∷ o .tail) (quiet-front bytes (0x02 ∷ []) q) (o .split)
-    | lone n e q h ↦ no-mark (o .noise) (o .size ∷ o .tail) q (o .split)
-    | mark n t e q h ↦
-        short (o .size) (o .tail) (w .begun)
-        (h ∙ ap (λ l. 0xFF ∷ (0x02 ∷ l)) (first-mark n (o .noise) t (o .size ∷ o .tail) q (o .quiet) (sym e ∙ o .split) .1)) (o .judged)
+      | clear q h ↦ no-mark (o .noise) (o .size ∷ o .tail) (quiet-front bytes (0x02 ∷ []) q) (o .split)
+      | lone n e q h ↦ no-mark (o .noise) (o .size ∷ o .tail) q (o .split)
+      | mark n t e q h ↦
+          short (o .size) (o .tail) (w .begun)
+          (h ∙ ap (λ l. 0xFF ∷ (0x02 ∷ l)) (first-mark n (o .noise) t (o .size ∷ o .tail) q (o .quiet) (sym e ∙ o .split) .1)) (o .judged)
     ]

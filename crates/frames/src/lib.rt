@@ -6,7 +6,6 @@ pub mod numbered;
 pub mod reader;
 pub mod refusal;
 pub mod samples;
-pub mod writing;
-
 #[cfg(test)]
 mod tests;
+pub mod writing;

@@ -13,10 +13,19 @@ const ACK: [u8; 7] = [0xFF, 0x02, 0x04, 0x06, 0x56, 0x02, 0x03];
 fn writes_and_refuses() -> Result<(), Fail> {
     let mut memory = [0xEE; 9];
     check_eq(write(&mut memory, 0x40, &[0x04, 0x00]), Ok(9))?;
-    check_eq(memory, [0xFF, 0x02, 0x06, 0x40, 0x04, 0x00, 0x8C, 0x2A, 0x03])?;
-    check_eq(write(&mut memory, 0x40, &[0; 251]), Err(Refusal::DataTooLong))?;
+    check_eq(
+        memory,
+        [0xFF, 0x02, 0x06, 0x40, 0x04, 0x00, 0x8C, 0x2A, 0x03],
+    )?;
+    check_eq(
+        write(&mut memory, 0x40, &[0; 251]),
+        Err(Refusal::DataTooLong),
+    )?;
     check_eq(write(&mut memory, 0x40, &[0; 3]), Err(Refusal::MemoryShort))?;
-    check_eq((Refusal::DataTooLong.number(), Refusal::MemoryShort.number()), (9, 10))
+    check_eq(
+        (Refusal::DataTooLong.number(), Refusal::MemoryShort.number()),
+        (9, 10),
+    )
 }
 
 #[test]

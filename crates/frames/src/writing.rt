@@ -9,7 +9,9 @@ use super::crc::crc;
 use super::refusal::Refusal;
 
 const SYNC: u8 = 0xFF;
+
 const STX: u8 = 0x02;
+
 const ETX: u8 = 0x03;
 
 // Writes the frame of a command and its data to the start of the memory, and answers its length.

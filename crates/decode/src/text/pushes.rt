@@ -14,7 +14,10 @@ impl Text {
     pub fn new() -> Text
         ensures { λ r. ⌜ text-of r ≡ [] ⌝ }
     {
-        Text { bytes: [0; 65536], used: 0 }
+        Text {
+            bytes: [0; 65536],
+            used: 0,
+        }
     }
 
     // Whether a line more has room.

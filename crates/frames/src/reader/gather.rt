@@ -6,9 +6,9 @@ ghost use Rattle.frames.specs.declared.reader.Stage.the-variants.{Body as gath
 ghost use Rattle.frames.specs.Reading.{found, holds, Measured, Opened, Reads};
 use super::super::finding::Cause;
 use super::super::finding::Finding;
-use super::judge::judge;
 use super::Reader;
 use super::Stage;
+use super::judge::judge;
 
 impl Reader {
     // Takes a LENGTH, and says whether a frame can have it.
@@ -41,7 +41,8 @@ impl Reader {
         if self.got == 0 {
             return (judge(&stretch[0..missing]), missing);
         }
-        self.body[self.got..self.length].copy_from_slice(&stretch[0..missing]);
+        self.body[self.got..self.length]
+            .copy_from_slice(&stretch[0..missing]);
         (judge(&self.body[0..self.length]), missing)
     }
 
@@ -57,7 +58,13 @@ impl Reader {
             Stage::Body => self.gather(stretch),
             _ => {
                 if !self.measure(stretch[0]) {
-                    return (Finding::Dropped { cause: Cause::Length, size: 3 }, 1);
+                    return (
+                        Finding::Dropped {
+                            cause: Cause::Length,
+                            size: 3,
+                        },
+                        1,
+                    );
                 }
                 let (finding, gathered) = self.gather(&stretch[1..]);
                 (finding, 1 + gathered)

@@ -10,6 +10,7 @@ use super::Reader;
 use super::Stage;
 
 const SYNC: u8 = 0xFF;
+
 const STX: u8 = 0x02;
 
 // Where the first SYNC stands that is directly followed by STX; the number of bytes where none does.

@@ -32,10 +32,16 @@ pub(crate) fn judge(body: &[u8]) -> Finding
         return Finding::Nothing;
     };
     if *last != ETX {
-        return Finding::Dropped { cause: Cause::End, size };
+        return Finding::Dropped {
+            cause: Cause::End,
+            size,
+        };
     }
     if !check_holds(body.len() as u8, front, *low, *high) {
-        return Finding::Dropped { cause: Cause::Check, size };
+        return Finding::Dropped {
+            cause: Cause::Check,
+            size,
+        };
     }
     let [cmd, data @ ..] = front else {
         return Finding::Nothing;

@@ -14,7 +14,12 @@ impl Reader {
     pub fn new() -> Reader
         ensures { λ r. ⌜ holds r ≡ [] ⌝ }
     {
-        Reader { stage: Stage::Hunting, length: 4, got: 0, body: [0; 254] }
+        Reader {
+            stage: Stage::Hunting,
+            length: 4,
+            got: 0,
+            body: [0; 254],
+        }
     }
 
     // Forgets what is held, a lone 0xFF too, and hunts again; that is no drop.

@@ -8,4 +8,4 @@ abbrev pub Inv-loop-place : given.InvT-loop-place
 Inv-loop-place g l =
     None-before (g .T·Numbered .carried) (l .number) (l .rows) (l .place)
     × (place-from (g .T·Numbered .carried) (l .number) (l .place) (drop (l .place) (l .rows))
-        ≡ place-of (g .T·Numbered .carried) (l .number) (l .rows))
+    ≡ place-of (g .T·Numbered .carried) (l .number) (l .rows))

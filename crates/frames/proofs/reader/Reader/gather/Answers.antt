@@ -37,8 +37,8 @@ returns-then-self-eq0 c =
     let s = c .args .stretch .now in
     let missing = r .length - r .got in
     let judged = judged-as (r .length) (take (missing - 0) s) (take (r .got) (r .body) ++ take missing s) _ (c .judge .ensures)
-        (length-take-le (missing - 0) s (omega arith) ∙ (let n : missing - 0 ≡ r .length = omega arith in n))
-        (ap (λ k. take k s) (sub-zero missing) ∙ ap (λ k. take k (r .body) ++ take missing s) (sym (c .if-self-eq0 .taken))) in
+    (length-take-le (missing - 0) s (omega arith) ∙ (let n : missing - 0 ≡ r .length = omega arith in n))
+    (ap (λ k. take k s) (sub-zero missing) ∙ ap (λ k. take k (r .body) ++ take missing s) (sym (c .if-self-eq0 .taken))) in
     reads-at r Body s _ _ _ (c .pre) (gathers-all (r .length) (take (r .got) (r .body)) s (r .least, r .most) missing _ (enough r) (c .if-stretch-missing .left) judged)
 
 pub ghost-self-2 : need.ghost-self-2
@@ -54,9 +54,9 @@ returns c =
     let missing = r .length - r .got in
     let copied = c .copy-from-slice-2 .ensures .after ∙ ap (λ k. take k s) (sub-zero missing) in
     let put = take-putMid (r .got) missing (r .body) (c .copy-from-slice-2 .last .self) (r .length)
-        (let n : r .length ≡ r .got + missing = omega arith in n ∙ ap (λ k. r .got + k) (sym (ap length copied ∙ length-take-le missing s (c .if-stretch-missing .left)))) (omega arith) in
+    (let n : r .length ≡ r .got + missing = omega arith in n ∙ ap (λ k. r .got + k) (sym (ap length copied ∙ length-take-le missing s (c .if-stretch-missing .left)))) (omega arith) in
     let whole = ap (λ k. take k (putMid (r .got) missing (r .body) (c .copy-from-slice-2 .last .self))) (sub-zero (r .length)) ∙ put ∙ ap (λ l. take (r .got) (r .body) ++ l) copied in
     let judged = judged-as (r .length) (take (r .length - 0) (putMid (r .got) missing (r .body) (c .copy-from-slice-2 .last .self))) (take (r .got) (r .body) ++ take missing s) _ (c .judge-2 .ensures)
-        (ap length whole ∙ length-append (take (r .got) (r .body)) (take missing s) ∙ (λ i. length-take-le (r .got) (r .body) (omega arith) i + length-take-le missing s (c .if-stretch-missing .left) i) ∙ (let n : r .got + missing ≡ r .length = omega arith in n))
-        whole in
+    (ap length whole ∙ length-append (take (r .got) (r .body)) (take missing s) ∙ (λ i. length-take-le (r .got) (r .body) (omega arith) i + length-take-le missing s (c .if-stretch-missing .left) i) ∙ (let n : r .got + missing ≡ r .length = omega arith in n))
+    whole in
     reads-at r Body s _ _ _ (c .pre) (gathers-all (r .length) (take (r .got) (r .body)) s (r .least, r .most) missing _ (enough r) (c .if-stretch-missing .left) judged)

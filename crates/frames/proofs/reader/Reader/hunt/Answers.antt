@@ -11,10 +11,10 @@ use Rattle.frames.proofs.reader.Reader.hunt.Needs as need
 
 pub returns-then-is-empty : need.returns-then-is-empty
 returns-then-is-empty c = record {
-    within = omega arith;
-    waits = still (c .args .self .now);
-    opened = λ h. absurd (omega (arith, true-eqb _ 0 (c .if-is-empty .ensures tt)));
-  }
+  within = omega arith;
+  waits = still (c .args .self .now);
+  opened = λ h. absurd (omega (arith, true-eqb _ 0 (c .if-is-empty .ensures tt)));
+}
 
 pub returns-then-stretch-eq-STX : need.returns-then-stretch-eq-STX
 returns-then-stretch-eq-STX c =
@@ -32,7 +32,7 @@ returns-else-stretch-eq-STX c =
     record {
       within = told .within;
       waits = waits-at (c .args .self .now) Sync _ _ (c .in-Sync .is)
-        (sync-then-other (c .args .stretch .now) _ _ (told .some some) some (c .if-stretch-eq-STX .left) (told .waits));
+          (sync-then-other (c .args .stretch .now) _ _ (told .some some) some (c .if-stretch-eq-STX .left) (told .waits));
       opened = λ h. subst Opened (sym (told .opened h)) tt;
     }
 

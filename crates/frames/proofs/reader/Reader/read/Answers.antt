@@ -20,9 +20,9 @@ returns c =
     let after = holds (c .candidate-finding .last .self) in
     let told = c .hunt-hunted .ensures in
     let reads : Reads held stretch r used after =
-        reads-on held (holds (c .hunt-hunted .last .self)) after stretch (c .hunt-hunted .result) (c .candidate-finding .result .1) r (told .within) (told .waits)
-        (subst (λ l. Reads (holds (c .hunt-hunted .last .self)) l r (c .candidate-finding .result .1) after)
-        (take-rest stretch (c .hunt-hunted .result)) (c .candidate-finding .ensures)) in
+    reads-on held (holds (c .hunt-hunted .last .self)) after stretch (c .hunt-hunted .result) (c .candidate-finding .result .1) r (told .within) (told .waits)
+    (subst (λ l. Reads (holds (c .hunt-hunted .last .self)) l r (c .candidate-finding .result .1) after)
+    (take-rest stretch (c .hunt-hunted .result)) (c .candidate-finding .ensures)) in
     let exact = finds-exactly held stretch after r used reads in
     record {
       reads = reads;

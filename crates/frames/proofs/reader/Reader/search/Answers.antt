@@ -19,20 +19,20 @@ returns-then-at-stretch c =
 
 pub returns-then-stretch-at : need.returns-then-stretch-at
 returns-then-stretch-at c = record {
-    within = omega arith;
-    waits = sync-held _ _ (c .start-of-at .result - 1) (omega arith) (omega arith) (c .start-of-at .ensures .before) (c .if-stretch-at .taken);
-    some = λ h. omega arith;
-    opened = λ h. absurd (omega arith);
-  }
+  within = omega arith;
+  waits = sync-held _ _ (c .start-of-at .result - 1) (omega arith) (omega arith) (c .start-of-at .ensures .before) (c .if-stretch-at .taken);
+  some = λ h. omega arith;
+  opened = λ h. absurd (omega arith);
+}
 
 pub returns : need.returns
 returns c = record {
-    within = omega arith;
-    waits = none-held _ _ (omega arith) (c .start-of-at .ensures .before)
+  within = omega arith;
+  waits = none-held _ _ (omega arith) (c .start-of-at .ensures .before)
       (λ m e sync. elim (c .else-at-gt0 .came) [
-        else-at-gt0·by·then-at-gt0·else-stretch-at w ↦ w .if-stretch-at .left (subst (λ i. getD (c .args .stretch .now) i 0 ≡ 0xFF) (let z : m ≡ c .start-of-at .result - 1 = omega arith in z) sync)
-      | else-at-gt0·by·else-at-gt0 w ↦ omega arith
+        | else-at-gt0·by·then-at-gt0·else-stretch-at w ↦ w .if-stretch-at .left (subst (λ i. getD (c .args .stretch .now) i 0 ≡ 0xFF) (let z : m ≡ c .start-of-at .result - 1 = omega arith in z) sync)
+        | else-at-gt0·by·else-at-gt0 w ↦ omega arith
       ]);
-    some = λ h. omega arith;
-    opened = λ h. absurd (omega arith);
-  }
+  some = λ h. omega arith;
+  opened = λ h. absurd (omega arith);
+}
