@@ -1,0 +1,11 @@
+mod EachParameter
+mod OneByte
+mod RouteForm
+mod Opening
+mod Refusing
+mod Fields
+mod Apart
+mod Known
+mod InStep
+mod RunLaw
+mod Short

@@ -1,0 +1,10 @@
+pub mod Parameters
+pub mod Values
+pub mod Forms
+pub mod Routes
+pub mod Tables
+pub mod Images
+pub mod Refusals
+pub mod Boards
+pub mod ImageStores
+pub mod Histories
