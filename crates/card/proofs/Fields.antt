@@ -1,18 +1,23 @@
 -- A lawful value in its field: it fits, it is what the field is read as, and the field is sound.
-use mathlib.Core.Bool.{true, false, _&&_}
+use mathlib.Core.Bool.{true, false}
 use mathlib.Core.List.{List, [], _∷_, _++_, append-nil}
-use mathlib.Core.Path.{_≡_, refl, sym, _∙_, ap}
+use mathlib.Core.Path.{_≡_, refl, _∙_, ap}
 use Prim.Native.Nat.{ℕ, suc, zero, _+_, _-_, _*_, _≤_}
 use native.Mathlib.Omega.{arith}
 use lib.Dec.{leb, eqb}
-use lib.ListN.{length, getD, take, drop, replicate}
+use lib.ListN.{length, take, drop, replicate}
 use borrow.Rule.Slice.PartMut.{putMid}
 use Rattle.std.proofs.shelf.Lists.{take-at, drop-at, drop-all, length-drop}
 use Rattle.std.proofs.shelf.Tests.{and-parts, and-from, leb-true, eqb-true, both-ways}
 use Rattle.card.specs.declared.parameter.Lawful.{Lawful}
 use Rattle.card.specs.declared.parameter.Lawful.the-variants.{AnyByte, ByteUpto, RouteUpto}
+use Rattle.card.specs.declared.parameter.Parameter.{Parameter}
 use Rattle.card.specs.Parameters.{admits}
-use Rattle.card.specs.Images.{width, used, blank, sound-field}
+use Rattle.card.specs.Images.{width, width-of, used, blank, sound-field}
+
+-- A value in the image: its bytes, then 0 in the bytes that it does not use.
+abbrev pub field : Parameter → List ℕ → List ℕ
+field p value = value ++ replicate (width-of p - length value) 0
 
 -- A value written at the start of a field, and 0 behind it.
 pub put-in-field : (bytes value zeros : List ℕ) → length value ≤ length bytes

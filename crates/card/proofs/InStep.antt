@@ -1,8 +1,8 @@
 -- A lawful write keeps the bytes an image that opens to the values held.
-use mathlib.Core.Bool.{true, false, cond}
+use mathlib.Core.Bool.{true, cond}
 use mathlib.Core.List.{List, _++_}
 use mathlib.Core.Logic.{⊎-elim}
-use mathlib.Core.Path.{_≡_, refl, sym, _∙_, ap, subst}
+use mathlib.Core.Path.{_≡_, sym, _∙_, ap, subst}
 use Prim.Native.Nat.{ℕ, _+_, _-_, _≤_}
 use native.Mathlib.Omega.{arith}
 use lib.ListN.{length, take, drop, replicate}
@@ -14,9 +14,9 @@ use Rattle.card.specs.declared.parameter.Parameter.{Parameter}
 use Rattle.card.specs.declared.parameter.Row.{Row}
 use Rattle.card.specs.Parameters.{row-for, parameters, row-numbered, lawful-for}
 use Rattle.card.specs.Values.{Values, lawful, after-write}
-use Rattle.card.specs.Images.{width, width-of, same, start-of, field, field-in, used, value-in, sound-field, Opens-to}
+use Rattle.card.specs.Images.{width, width-of, same, start-of, field-in, used, value-in, sound-field, Opens-to}
 use Rattle.card.proofs.Apart.{same-is, ends-within, own-field, other-field}
-use Rattle.card.proofs.Fields.{value-fits, reads-value, put-sound}
+use Rattle.card.proofs.Fields.{field, value-fits, reads-value, put-sound}
 use Rattle.card.proofs.Known.{row-found, lawful-there, written-there}
 use Rattle.card.proofs.Opening.{all-sound, each-sound}
 use Rattle.card.proofs.Refusing.{not-refused, opened-length, opened-sound}

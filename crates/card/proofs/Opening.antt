@@ -1,5 +1,5 @@
 -- Reading an image field by field: each field that is sound gives its value, and one that is not refuses the image.
-use mathlib.Core.Bool.{Bool, true, false, cond, _&&_}
+use mathlib.Core.Bool.{Bool, true, false, _&&_}
 use mathlib.Core.List.{List, [], _∷_, _++_}
 use mathlib.Core.Logic.{⊎-elim}
 use mathlib.Core.Path.{_≡_, refl, sym, _∙_, ap}
@@ -12,12 +12,11 @@ use Rattle.std.specs.Results.{isOk, isErr}
 use Rattle.std.specs.Vec.{made}
 use Rattle.std.proofs.shelf.Results.{made-from-err}
 use Rattle.std.proofs.shelf.Tests.{and-from, and-left, and-right, both-ways, cases-bool}
-use Rattle.card.specs.declared.parameter.Lawful.{Lawful}
-use Rattle.card.specs.declared.parameter.Lawful.the-variants.{AnyByte, ByteUpto, RouteUpto}
+use Rattle.card.specs.declared.parameter.Lawful.the-variants.{AnyByte, ByteUpto}
 use Rattle.card.specs.declared.parameter.Parameter.{Parameter}
 use Rattle.card.specs.declared.parameter.Parameter.the-variants.{OwnPollingGroup, RadioAcknowledge, RelayRouteStatus, RelayRoute, PollingRoute, GroupNumber, PollingTime, UserTimeOut, ExchangeStatus, SwitchMode}
 use Rattle.card.specs.Parameters.{row-for, parameters, admits}
-use Rattle.card.specs.Images.{field-in, used, sound-field, sound-among}
+use Rattle.card.specs.Images.{field-in, sound-field, sound-among}
 
 and-true : (x : Bool) → (x && true) ≡ x
 and-true true = refl

@@ -1,10 +1,10 @@
 -- The image of a store: the values of the parameters in a fixed number of bytes.
 use mathlib.Core.Bool.{Bool, true, cond, _&&_}
-use mathlib.Core.List.{List, [], _∷_, _++_}
+use mathlib.Core.List.{List, [], _∷_}
 use mathlib.Core.Path.{_≡_}
-use Prim.Native.Nat.{ℕ, _+_, _-_, _*_}
+use Prim.Native.Nat.{ℕ, _+_, _*_}
 use lib.Dec.{eqb}
-use lib.ListN.{length, getD, take, drop, replicate}
+use lib.ListN.{length, getD, take, drop}
 use Rattle.std.specs.declared.option.Option.{Option}
 use Rattle.std.specs.declared.option.Option.the-variants.{Some, None}
 use Rattle.card.specs.declared.parameter.Lawful.{Lawful}
@@ -35,10 +35,6 @@ start-among (q ∷ qs) p = cond (same q p) 0 (width-of q + start-among qs p)
 -- Where the bytes of a parameter start in the image.
 abbrev pub start-of : Parameter → ℕ
 start-of p = start-among parameters p
-
--- A value in the image: its bytes, then 0 in the bytes that it does not use.
-abbrev pub field : Parameter → List ℕ → List ℕ
-field p value = value ++ replicate (width-of p - length value) 0
 
 -- The bytes of an image that belong to a parameter.
 abbrev pub field-in : List ℕ → Parameter → List ℕ

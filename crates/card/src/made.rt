@@ -1,7 +1,5 @@
 // A store made over any bytes: in the image where they open, else in a table.
-ghost use mathlib.Core.List.{List};
 ghost use mathlib.Core.Path.{_≡_};
-ghost use Prim.Native.Nat.{ℕ};
 ghost use Rattle.card.specs.declared.parameter.Parameter.{Parameter};
 ghost use Rattle.card.specs.Images.{refusal};
 ghost use Rattle.card.specs.ImageStores.{made-held, made-bytes, made-sound, Made-over, made-values};

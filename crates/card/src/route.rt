@@ -1,7 +1,7 @@
 // Routes: lists of radio addresses, as relays and polls use them.
-ghost use Prim.Native.Nat.{ℕ, _<_};
+ghost use Prim.Native.Nat.{_<_};
 ghost use mathlib.Core.Bool.{cond};
-ghost use mathlib.Core.List.{List, []};
+ghost use mathlib.Core.List.{[]};
 ghost use mathlib.Core.Path.{_≡_};
 ghost use lib.ListN.{length, take};
 ghost use Rattle.card.specs.declared.parameter.Lawful.the-variants.{RouteUpto};

@@ -1,9 +1,7 @@
 // The table store: each parameter's value is a record of its own.
 mod opened;
 
-ghost use mathlib.Core.List.{List};
 ghost use mathlib.Core.Path.{_≡_};
-ghost use Prim.Native.Nat.{ℕ};
 ghost use Rattle.card.specs.declared.parameter.Parameter.{Parameter};
 ghost use Rattle.card.specs.Parameters.{first-value};
 ghost use Rattle.card.specs.Tables.{table-held, table-sound};

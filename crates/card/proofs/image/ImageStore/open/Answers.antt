@@ -1,5 +1,4 @@
 -- Which refusal the bytes get, and that opened bytes are in step with the values read from them.
-use borrow.Author.Needs.{needs}
 use native.Mathlib.Omega.{arith}
 use mathlib.Core.Path.{_≡_, refl, sym}
 use lib.ListN.{length}

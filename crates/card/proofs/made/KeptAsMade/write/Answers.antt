@@ -1,6 +1,5 @@
 -- A write goes to the store that was made.
-use mathlib.Core.Path.{_≡_, sym, _∙_, ap, subst}
-use Rattle.card.specs.declared.made.MadeStore.the-variants.{Image, Table}
+use mathlib.Core.Path.{sym, _∙_, ap, subst}
 use Rattle.card.specs.ImageStores.{made-held, Made-over}
 use Rattle.card.specs.Values.{after-write}
 use Rattle.card.proofs.made.KeptAsMade.write.Needs as need

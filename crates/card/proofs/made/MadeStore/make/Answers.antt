@@ -2,8 +2,6 @@
 use native.Mathlib.Omega.{arith}
 use mathlib.Core.Path.{_≡_, sym, _∙_, ap}
 use Prim.Native.Nat.{ℕ}
-use Rattle.std.specs.declared.option.Option.the-variants.{Some, None}
-use Rattle.card.specs.Images.{refusal}
 use Rattle.card.specs.ImageStores.{made-values}
 use Rattle.card.proofs.made.MadeStore.make.Needs as need
 

@@ -4,9 +4,6 @@ use mathlib.Core.Path.{_≡_, refl}
 use Prim.Native.Nat.{ℕ}
 use native.Mathlib.Omega.{arith}
 use lib.ListN.{length, getD}
-use Rattle.std.proofs.shelf.Lists.{same-lists, places}
-use borrow.Author.Needs.{needs}
-use Rattle.card.specs.Routes.{address-bytes}
 use Rattle.card.proofs.route.Address.read.Needs as need
 
 -- A list of six elements is its six elements.

@@ -1,12 +1,12 @@
 -- A field that ends before the addresses that its count asks for is refused.
 use borrow.Author.Needs.{needs}
-use mathlib.Core.Bool.{false, _&&_, cond}
+use mathlib.Core.Bool.{false, cond}
 use mathlib.Core.List.{List, [], _∷_}
 use mathlib.Core.Path.{_≡_, refl, sym, _∙_, ap}
-use Prim.Native.Nat.{ℕ, _+_, _*_, _<_}
+use Prim.Native.Nat.{ℕ, _*_, _<_}
 use native.Mathlib.Omega.{arith}
 use lib.Dec.{leb, eqb}
-use lib.ListN.{length, getD, take, drop}
+use lib.ListN.{length, take, drop}
 use Rattle.std.proofs.shelf.Lists.{take-all}
 use Rattle.std.proofs.shelf.Tests.{ne-eqb, and-left, and-right, cond-false}
 use Rattle.card.specs.declared.parameter.Lawful.the-variants.{RouteUpto}

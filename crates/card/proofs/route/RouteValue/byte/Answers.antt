@@ -1,10 +1,8 @@
 -- A byte of the form is the count, or lies in one of the addresses, or behind them.
-use mathlib.Core.Path.{_≡_, refl, sym, _∙_, ap, subst}
-use Prim.Native.Nat.{ℕ, suc, _-_, _/_, _<_, _≤_}
+use mathlib.Core.Path.{_≡_, _∙_, ap, subst}
+use Prim.Native.Nat.{suc, _-_, _/_, _<_, _≤_}
 use native.Mathlib.Omega.{arith}
-use borrow.Author.Needs.{needs}
 use lib.ListN.{length, getD}
-use Rattle.std.proofs.shelf.Tests.{ltb-true, ltb-false}
 use Rattle.card.specs.Values.{byte-at}
 use Rattle.card.specs.Routes.{stops, route-form}
 use Rattle.card.proofs.RouteForm.{byte-behind, none-behind}

@@ -1,5 +1,4 @@
 -- Each field is read in turn: the first that is not sound refuses the image, and where all are sound each value is at hand.
-use borrow.Author.Needs.{needs}
 use mathlib.Core.Bool.{true}
 use mathlib.Core.List.{List}
 use mathlib.Core.Path.{_≡_, sym, _∙_}
