@@ -1,11 +1,3 @@
-mod EachParameter
-mod OneByte
-mod RouteForm
-mod Opening
-mod Refusing
-mod Fields
-mod Apart
-mod Known
-mod InStep
-mod RunLaw
-mod Short
+mod Feeding
+mod PaperLaw
+mod WholeFrames

@@ -1,10 +1,6 @@
-pub mod Parameters
-pub mod Values
-pub mod Forms
-pub mod Routes
-pub mod Tables
-pub mod Images
-pub mod Refusals
-pub mod Boards
-pub mod ImageStores
-pub mod Histories
+pub mod Contents
+pub mod PaperCard
+pub mod Requests
+pub mod Responses
+pub mod CardPulse
+pub mod CardHistories

@@ -1,12 +1,14 @@
-// A card's ground floor: parameters, stores that hold their values, board kinds and settings.
-pub mod board;
-pub mod image;
-pub mod made;
-pub mod noted;
-pub mod parameter;
-pub mod refusal;
-pub mod route;
-pub mod settings;
-pub mod store;
-pub mod table;
-pub mod value;
+// The level of the card: what its rules promise, and its ground floor, passed on under this name.
+pub use boards::board;
+pub use boards::settings;
+pub use parameters::image;
+pub use parameters::made;
+pub use parameters::noted;
+pub use parameters::parameter;
+pub use parameters::refusal;
+pub use parameters::route;
+pub use parameters::store;
+pub use parameters::table;
+pub use parameters::value;
+
+pub mod laws;

@@ -1,0 +1,3 @@
+// Board kinds, and the settings of a card on a board.
+pub mod board;
+pub mod settings;

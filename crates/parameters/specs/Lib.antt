@@ -1,0 +1,9 @@
+pub mod Parameters
+pub mod Values
+pub mod Forms
+pub mod Routes
+pub mod Tables
+pub mod Images
+pub mod Refusals
+pub mod ImageStores
+pub mod Histories
