@@ -1,9 +1,8 @@
 -- What collecting a slip comes to on a station, and what a history tells of it.
-use mathlib.Core.Path.{_≡_, refl, sym, ap, subst, _∙_}
-use mathlib.Core.Bool.{Bool, true, false, cond}
-use mathlib.Core.List.{List, [], _∷_, _++_}
-use mathlib.Core.Logic.{_⊎_, inl, inr, ⊎-elim}
-use Prim.Native.Nat.{ℕ, _+_, _≤_, _<_}
+use mathlib.Core.Path.{_≡_, refl, sym, ap, _∙_}
+use mathlib.Core.Bool.{true, false, cond}
+use mathlib.Core.List.{List}
+use Prim.Native.Nat.{ℕ}
 use native.Mathlib.Omega.{arith}
 use lib.Dec.{eqb, ltb}
 use Rattle.std.proofs.shelf.Tests.{cond-both, cond-true, cond-false, le-ltb, eqb-true, eq-eqb, ne-eqb}
@@ -12,11 +11,11 @@ use Rattle.std.specs.declared.option.Option.the-variants.{Some, None}
 use Rattle.std.specs.declared.result.Result.{Result}
 use Rattle.std.specs.declared.result.Result.the-variants.{Ok, Err}
 use Rattle.station.specs.declared.refusal.Refusal.{Refusal}
-use Rattle.station.specs.declared.refusal.Refusal.the-variants.{MemoryShort, OtherMark, NumberNotHeld, NotEnded}
-use Rattle.station.specs.Inquiries.{Ending, Outcome, Stage, waiting, due, acknowledging, answering, receiving, ended, Inquiry, has-ended}
-use Rattle.station.specs.Stations.{Slip, Station, least-memory, held-under, outcome-at, outcome-of, collect-answer, collect-after}
-use Rattle.station.specs.Histories.{Event, collects, History, _▸_, Run, Happens, Tells}
-use Rattle.station.proofs.Turns.{Over, clash}
+use Rattle.station.specs.declared.refusal.Refusal.the-variants.{OtherMark, NotEnded}
+use Rattle.station.specs.Inquiries.{Outcome, Stage, waiting, due, acknowledging, answering, receiving, ended, Inquiry, has-ended}
+use Rattle.station.specs.Stations.{Slip, Station, least-memory, held-under, outcome-at, outcome-of, collect-answer, collect-after, lodge-after}
+use Rattle.station.specs.Histories.{History, Run, Tells}
+use Rattle.station.proofs.Turns.{clash}
 use Rattle.station.proofs.Determined.{determined}
 
 -- what collecting answers where the memory suffices
@@ -65,7 +64,7 @@ pub had : (s : Station) (slip : Slip) (o : Outcome) → told s slip ≡ Ok o →
 had s slip o =
     cond-both (eqb (slip .mark) (s .mark)) _ _ (λ r. r ≡ Ok o → Had s slip o)
     (λ own e. let q = had-of (held-under (slip .number) (s .places)) o e in
-      record { inquiry = q .0; own = eqb-true (slip .mark) (s .mark) own; held = q .1; at = q .2; copies = q .3 })
+    record { inquiry = q .0; own = eqb-true (slip .mark) (s .mark) own; held = q .1; at = q .2; copies = q .3 })
     (λ other e. absurd (let z : _≡_ {A = ℕ} 0 1 = cc in omega arith))
 
 pub collected : (s : Station) (slip : Slip) (memory : ℕ) (o : Outcome) → Ok o ≡ collect-answer s slip memory → told s slip ≡ Ok o
@@ -104,9 +103,18 @@ not-ended-of (Some q) e = (q, refl, not-ended-at (q .copies) (q .stage) e)
 
 -- a slip whose inquiry has not ended
 pub open-slip : (s : Station) (slip : Slip) → told s slip ≡ Err NotEnded
-  → (slip .mark ≡ s .mark) × ((q : Inquiry) × (held-under (slip .number) (s .places) ≡ Some q) × (has-ended (q .stage) ≡ false))
+    → (slip .mark ≡ s .mark) × ((q : Inquiry) × (held-under (slip .number) (s .places) ≡ Some q) × (has-ended (q .stage) ≡ false))
 open-slip s slip =
     cond-both (eqb (slip .mark) (s .mark)) _ _
     (λ r. r ≡ Err NotEnded → (slip .mark ≡ s .mark) × ((q : Inquiry) × (held-under (slip .number) (s .places) ≡ Some q) × (has-ended (q .stage) ≡ false)))
     (λ own e. (eqb-true (slip .mark) (s .mark) own, not-ended-of (held-under (slip .number) (s .places)) e))
     (λ other e. absurd (let z : _≡_ {A = ℕ} 0 1 = cc in omega arith))
+
+-- no call changes the mark
+pub lodge-mark : (b : Station) (c : ℕ) (d : List ℕ) (o : Option Refusal) → lodge-after b c d o .mark ≡ b .mark
+lodge-mark b c d None = refl
+lodge-mark b c d (Some r) = refl
+
+pub collect-mark : (b : Station) (slip : Slip) (r : Result Outcome Refusal) → collect-after b slip r .mark ≡ b .mark
+collect-mark b slip (Ok o) = refl
+collect-mark b slip (Err r) = refl

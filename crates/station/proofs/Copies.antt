@@ -1,26 +1,23 @@
 -- The count of copies: how far it can have come at each stage, and which frames a pulse puts.
 use mathlib.Core.Path.{_≡_, refl, sym, ap, subst, _∙_}
-use mathlib.Core.Bool.{Bool, true, false, cond, _||_, _&&_}
+use mathlib.Core.Bool.{Bool, true, false, cond}
 use mathlib.Core.List.{List, [], _∷_, _++_, append-assoc, append-nil}
-use mathlib.Core.Logic.{_⊎_, inl, inr, ⊎-elim}
-use Prim.Native.Nat.{ℕ, zero, suc, _+_, _≤_, _<_}
+use Prim.Native.Nat.{ℕ, zero, suc, _+_, _≤_}
 use native.Mathlib.Omega.{arith}
 use native.Mathlib.Numerals.{add-one}
 use lib.Dec.{eqb, leb}
 use lib.ListN.{length, replicate}
-use Rattle.std.specs.shelf.Lists.{All}
-use Rattle.std.specs.shelf.Text.{sameBytes}
-use Rattle.std.proofs.shelf.Tests.{cond-both, cond-true, cond-false, and-left, or-from, ne-eqb, leb-false}
+use Rattle.std.proofs.shelf.Tests.{cond-both, cond-true, cond-false, and-left, or-from, ne-eqb}
 use Rattle.std.specs.declared.option.Option.{Option}
 use Rattle.std.specs.declared.option.Option.the-variants.{Some, None}
 use Rattle.frames.specs.Finding.{Found, frame, dropped}
 use Rattle.frames.specs.declared.finding.Cause.the-variants.{Length, End, Check}
 use Rattle.station.specs.Commands.{request-cause, is-answer, lawful-answer}
-use Rattle.station.specs.Inquiries.{Stage, waiting, due, acknowledging, answering, receiving, ended, Inquiry, Frame, written, own-frame, has-ended, is-due}
+use Rattle.station.specs.Inquiries.{Stage, waiting, due, acknowledging, answering, receiving, ended, Inquiry, Frame, written, own-frame, is-due}
 use Rattle.station.specs.Exchange.{hear, hear-all, tick, opened, counted, reply, ack, nak, error, is, control-cmd}
 use Rattle.station.specs.Stations.{has-space, put, replies, due-frame}
 use Rattle.station.specs.Promises.{all-written, is-control, requests}
-use Rattle.station.proofs.Turns.{clash, tries, moved, if-due}
+use Rattle.station.proofs.Turns.{moved}
 use Rattle.station.proofs.Hearing.{Fails-at, again, gives-up, after-cases, Hears, same, acknowledged, refused, cut-off, goes-by-radio, gets-answer, gets-radio, hear-cases}
 
 -- no more copies than attempts
@@ -47,7 +44,7 @@ fails-counted k n (gives-up f e) c d = subst (λ s. Counted s n) (sym e) (omega 
 heard-counted : {q : Inquiry} {v : Found} {now later : Stage} (n : ℕ) → Hears q v now later → Counted now n → Counted later n
 heard-counted {now = now} n (same e) c = subst (λ s. Counted s n) (sym e) c
 heard-counted {now = now} n (acknowledged k left e some f) c = subst (λ s. Counted s n) (sym f) (at-most-four now n c)
-heard-counted n (refused k left e some f) c = let here = subst (λ s. Counted s n) e c in fails-counted k n f (here .0) (here .1)
+heard-counted n (refused k left e some f g) c = let here = subst (λ s. Counted s n) e c in fails-counted k n f (here .0) (here .1)
 heard-counted {now = now} n (cut-off k left e some f) c = subst (λ s. Counted s n) (sym f) (at-most-four now n c)
 heard-counted {now = now} n (goes-by-radio left e is f) c = subst (λ s. Counted s n) (sym f) (at-most-four now n c)
 heard-counted {now = now} n (gets-answer left x d e is answers lawful apart f) c = subst (λ s. Counted s n) (sym f) (at-most-four now n c)
@@ -110,26 +107,27 @@ reply-control (dropped Check n) = control nak refl refl
 reply-control (frame c d) =
     cond-both (control-cmd c) _ _ Replied (λ e. silent refl)
     (λ e. cond-both (is-answer c) _ _ Replied
-      (λ f. cond-both (lawful-answer c d) _ _ Replied (λ g. control ack refl refl) (λ g. control nak refl refl))
-      (λ f. control error refl refl))
+    (λ f. cond-both (lawful-answer c d) _ _ Replied (λ g. control ack refl refl) (λ g. control nak refl refl))
+    (λ f. control error refl refl))
 
 put-reply : (capacity : ℕ) (outgoing : List ℕ) (o : Option Frame) → Replied o → (fs : List Frame) × (put capacity outgoing o ≡ outgoing ++ all-written fs) × (requests fs ≡ [])
 put-reply capacity outgoing o (silent e) = ([], ap (put capacity outgoing) e ∙ sym (append-nil outgoing), refl)
 put-reply capacity outgoing o (control f e is) =
     subst (λ x. (fs : List Frame) × (put capacity outgoing x ≡ outgoing ++ all-written fs) × (requests fs ≡ [])) (sym e)
     (cond-both (has-space capacity outgoing (written f)) _ _ (λ l. (fs : List Frame) × (l ≡ outgoing ++ all-written fs) × (requests fs ≡ []))
-      (λ t. (f ∷ [], ap (λ l. outgoing ++ l) (sym (append-nil (written f))), cond-true _ _ _ is)) (λ t. ([], sym (append-nil outgoing), refl)))
+    (λ t. (f ∷ [], ap (λ l. outgoing ++ l) (sym (append-nil (written f))), cond-true _ _ _ is)) (λ t. ([], sym (append-nil outgoing), refl)))
 
 -- the replies of a pulse are whole frames, and none of them a request
 pub replies-control : (capacity : ℕ) (findings : List (ℕ × Found)) (outgoing : List ℕ)
-  → (fs : List Frame) × (replies capacity findings outgoing ≡ outgoing ++ all-written fs) × (requests fs ≡ [])
+    → (fs : List Frame) × (replies capacity findings outgoing ≡ outgoing ++ all-written fs) × (requests fs ≡ [])
 replies-control capacity [] outgoing = ([], sym (append-nil outgoing), refl)
 replies-control capacity ((place, v) ∷ more) outgoing =
     let one = put-reply capacity outgoing (reply v) (reply-control v) in
-    let rest = replies-control capacity more (put capacity outgoing (reply v)) in
-    (one .0 ++ rest .0,
-     rest .1 ∙ ap (λ l. l ++ all-written (rest .0)) (one .1) ∙ append-assoc outgoing (all-written (one .0)) (all-written (rest .0)) ∙ ap (λ l. outgoing ++ l) (sym (written-join (one .0) (rest .0))),
-     requests-join (one .0) (rest .0) ∙ (λ i. one .2 i ++ rest .2 i))
+    let rest = replies-control capacity more (put capacity outgoing (reply v)) in (
+      one .0 ++ rest .0,
+      rest .1 ∙ ap (λ l. l ++ all-written (rest .0)) (one .1) ∙ append-assoc outgoing (all-written (one .0)) (all-written (rest .0)) ∙ ap (λ l. outgoing ++ l) (sym (written-join (one .0) (rest .0))),
+      requests-join (one .0) (rest .0) ∙ (λ i. one .2 i ++ rest .2 i),
+    )
 
 -- a request's frame is none of the three
 apart-from : (c n m : ℕ) → request-cause c n ≡ None → (request-cause m n ≡ None → ⊥) → eqb m c ≡ false
@@ -139,7 +137,7 @@ pub request-plain : (c : ℕ) (d : List ℕ) → request-cause c (length d) ≡ 
 request-plain c d lodged =
     or-from _ _ (and-left _ _ (apart-from c (length d) 0x06 lodged (λ e. let z : _≡_ {A = ℕ} 0 1 = cc in omega arith)))
     (or-from _ _ (and-left _ _ (apart-from c (length d) 0x15 lodged (λ e. let z : _≡_ {A = ℕ} 0 1 = cc in omega arith)))
-      (and-left _ _ (apart-from c (length d) 0x00 lodged (λ e. let z : _≡_ {A = ℕ} 0 1 = cc in omega arith))))
+    (and-left _ _ (apart-from c (length d) 0x00 lodged (λ e. let z : _≡_ {A = ℕ} 0 1 = cc in omega arith))))
 
 replicate-suc : {X : Type 0} (n : ℕ) (x : X) → replicate (suc n) x ≡ replicate n x ++ (x ∷ [])
 replicate-suc zero x = refl
@@ -150,7 +148,7 @@ replicate-last n x = ap (λ m. replicate m x) (add-one n) ∙ replicate-suc n x
 
 -- an attempt that puts its frame adds one copy
 pub copies-more : (capacity : ℕ) (outgoing : List ℕ) (q : Inquiry) (now : Stage)
-  → replicate (counted (has-space capacity outgoing (written (own-frame q))) now (q .copies)) (own-frame q)
+    → replicate (counted (has-space capacity outgoing (written (own-frame q))) now (q .copies)) (own-frame q)
     ≡ replicate (q .copies) (own-frame q) ++ sent-now capacity outgoing (cond (is-due now) (Some q) None)
 copies-more capacity outgoing q waiting = sym (append-nil (replicate (q .copies) (own-frame q)))
 copies-more capacity outgoing q (acknowledging k left) = sym (append-nil (replicate (q .copies) (own-frame q)))

@@ -1,17 +1,16 @@
 -- How many pulses an inquiry has left at most, and that each pulse takes one of them.
-use mathlib.Core.Path.{_≡_, refl, sym, ap, subst, _∙_}
-use mathlib.Core.Bool.{Bool, true, false, cond}
+use mathlib.Core.Path.{_≡_, refl, sym, ap, subst}
+use mathlib.Core.Bool.{true}
 use mathlib.Core.List.{List, [], _∷_}
-use mathlib.Core.Logic.{_⊎_, inl, inr, ⊎-elim}
-use Prim.Native.Nat.{ℕ, _+_, _-_, _*_, _≤_, _<_}
+use Prim.Native.Nat.{ℕ, _+_, _-_, _*_, _≤_}
 use native.Mathlib.Omega.{arith}
 use lib.Dec.{leb}
-use Rattle.std.proofs.shelf.Tests.{cond-both, leb-true, leb-false}
+use Rattle.std.proofs.shelf.Tests.{cond-both, leb-false}
 use Rattle.frames.specs.Finding.{Found}
 use Rattle.station.specs.Inquiries.{Stage, waiting, due, acknowledging, answering, receiving, ended, Inquiry, under-way, has-ended}
-use Rattle.station.specs.Exchange.{hear, hear-all, tick, after-attempt, opened, attempted, begun}
+use Rattle.station.specs.Exchange.{hear, hear-all, tick, opened}
 use Rattle.station.proofs.Hearing.{Fails-at, again, gives-up, after-cases, Hears, same, acknowledged, refused, cut-off, goes-by-radio, gets-answer, gets-radio, hear-cases}
-use Rattle.station.proofs.Turns.{clash, moved, tries}
+use Rattle.station.proofs.Turns.{clash, moved}
 
 -- the pulses that an inquiry has left once it is under way; a waiting one has as many left when it begins
 abbrev pub cost : Stage → ℕ
@@ -29,7 +28,7 @@ fails-cost k (gives-up f e) = (subst (λ s. cost s ≤ 51 + 5 * (4 - k)) (sym e)
 heard-cost : {q : Inquiry} {v : Found} {now later : Stage} → Hears q v now later → cost later ≤ cost now
 heard-cost {now = now} {later = later} (same e) = omega (arith, ap cost e)
 heard-cost (acknowledged k left e some f) = omega (arith, ap cost e, ap cost f)
-heard-cost (refused k left e some f) = omega (arith, ap cost e, fails-cost k f .0)
+heard-cost (refused k left e some f g) = omega (arith, ap cost e, fails-cost k f .0)
 heard-cost (cut-off k left e some f) = omega (arith, ap cost e, ap cost f)
 heard-cost (goes-by-radio left e is f) = omega (arith, ap cost e, ap cost f)
 heard-cost (gets-answer left c d e is answers lawful apart f) = omega (arith, ap cost e, ap cost f)

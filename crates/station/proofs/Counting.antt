@@ -1,11 +1,10 @@
 -- How many inquiries are unfinished: no more than a list of slips that names each of them.
-use mathlib.Core.Path.{_≡_, refl, sym, ap, subst, _∙_}
-use mathlib.Core.Bool.{Bool, true, false, cond}
-use mathlib.Core.List.{List, [], _∷_, _++_}
-use mathlib.Core.Logic.{_⊎_, inl, inr, ⊎-elim}
-use Prim.Native.Nat.{ℕ, _+_, _*_, _≤_, _<_}
+use mathlib.Core.Path.{_≡_, refl, sym, ap, _∙_}
+use mathlib.Core.Bool.{false, cond}
+use mathlib.Core.List.{List, [], _∷_}
+use mathlib.Core.Logic.{inl, inr, ⊎-elim}
+use Prim.Native.Nat.{ℕ, _+_, _*_, _≤_}
 use native.Mathlib.Omega.{arith}
-use lib.Dec.{eqb}
 use lib.ListN.{length}
 use Rattle.std.specs.shelf.Lists.{All}
 use Rattle.std.proofs.shelf.Tests.{cond-both, cond-true, cond-false, eq-eqb, ne-eqb}
@@ -43,8 +42,8 @@ no-more mark low [] high slips r names = omega arith
 no-more mark low (n ∷ ns) high slips r names =
     let i = names n (inl refl) in
     let fewer = no-more mark (n + 1) ns high (deleted (slip-of mark n) slips i) (r .1)
-        (λ m j. deleted-others (slip-of mark n) (slip-of mark m) slips i
-          (λ e. omega (arith, ap (λ x. x .number) e, rising-above (n + 1) ns high m (r .1) j)) (names m (inr j))) in
+    (λ m j. deleted-others (slip-of mark n) (slip-of mark m) slips i
+    (λ e. omega (arith, ap (λ x. x .number) e, rising-above (n + 1) ns high m (r .1) j)) (names m (inr j))) in
     omega (arith, fewer, deleted-length (slip-of mark n) slips i)
 
 -- the numbers of the unfinished
@@ -61,7 +60,7 @@ rising-open low (q ∷ qs) high r =
 
 -- an unfinished inquiry is the one looked up by its number
 pub open-held : (low : ℕ) (qs : List Inquiry) (high n : ℕ) → Rising low (numbers qs) high → In n (open-numbers qs)
-  → (q : Inquiry) × (held-under n qs ≡ Some q) × (has-ended (q .stage) ≡ false)
+    → (q : Inquiry) × (held-under n qs ≡ Some q) × (has-ended (q .stage) ≡ false)
 open-held low [] high n r i = elim i [ ]
 open-held low (q ∷ qs) high n r here =
     cond-both (has-ended (q .stage)) _ _ (λ l. In n l → (x : Inquiry) × (held-under n (q ∷ qs) ≡ Some x) × (has-ended (x .stage) ≡ false))
@@ -70,7 +69,7 @@ open-held low (q ∷ qs) high n r here =
     here
   where
     further : In n (open-numbers qs) → (x : Inquiry) × (held-under n qs ≡ Some x) × (has-ended (x .stage) ≡ false)
-      → (x : Inquiry) × (held-under n (q ∷ qs) ≡ Some x) × (has-ended (x .stage) ≡ false)
+        → (x : Inquiry) × (held-under n (q ∷ qs) ≡ Some x) × (has-ended (x .stage) ≡ false)
     further i it =
         (it .0, cond-false _ _ _ (ne-eqb (q .number) n (λ e. omega (arith, e, rising-above (q .number + 1) (open-numbers qs) high n (rising-open (q .number + 1) qs high (r .1)) i))) ∙ it .1, it .2)
 

@@ -1,12 +1,12 @@
 -- A history leads to one station.
-use mathlib.Core.Path.{_≡_, refl, sym, ap, subst, _∙_}
-use mathlib.Core.List.{List, [], _∷_, _++_}
+use mathlib.Core.Path.{_≡_, sym, ap, subst, _∙_}
+use mathlib.Core.List.{List, _++_}
 use Prim.Native.Nat.{ℕ}
 use Rattle.frames.specs.Finding.{Found}
 use Rattle.frames.proofs.Exactness.{one-reading}
 use Rattle.lines.specs.Meaning.{Meaning}
 use Rattle.station.specs.Inquiries.{Inquiry}
-use Rattle.station.specs.Stations.{Station, fresh, taken, unless-silent, attempts, replies, up-to-step-three, Pulsed, lodge-cause, lodge-after, collect-after}
+use Rattle.station.specs.Stations.{Station, taken, unless-silent, attempts, replies, up-to-step-three, Pulsed}
 use Rattle.station.specs.Histories.{Event, lodges, pulses, collects, History, made, _▸_, Run, Step}
 
 pulse-determined : (b : Station) (line line-after line-other : Meaning) (s t : Station) → Pulsed b line s line-after → Pulsed b line t line-other → s ≡ t

@@ -1,8 +1,8 @@
 -- Every inquiry ends in time.
 use mathlib.Core.Path.{_≡_, refl, sym, ap, subst, _∙_}
-use mathlib.Core.Bool.{Bool, true, false, cond}
+use mathlib.Core.Bool.{false}
 use mathlib.Core.List.{List, [], _∷_, _++_}
-use mathlib.Core.Logic.{_⊎_, inl, inr, ⊎-elim}
+use mathlib.Core.Logic.{inl, inr, ⊎-elim}
 use Prim.Native.Nat.{ℕ, _+_, _*_, _≤_, _<_}
 use native.Mathlib.Omega.{arith}
 use lib.ListN.{length}
@@ -13,20 +13,19 @@ use Rattle.std.specs.declared.option.Option.{Option}
 use Rattle.std.specs.declared.option.Option.the-variants.{Some, None}
 use Rattle.std.specs.declared.result.Result.{Result}
 use Rattle.std.specs.declared.result.Result.the-variants.{Ok, Err}
-use Rattle.lines.specs.Meaning.{Meaning}
 use Rattle.station.specs.declared.refusal.Refusal.{Refusal}
 use Rattle.station.specs.declared.refusal.Refusal.the-variants.{NotEnded}
 use Rattle.station.specs.Inquiries.{Stage, waiting, due, acknowledging, answering, receiving, ended, Inquiry, Outcome, has-ended, under-way}
-use Rattle.station.specs.Stations.{Slip, Station, first, new-inquiry, lodge-cause, lodge-after, lodge-answer, without, held-under, outcome-of, replies, attempts, up-to-step-three, Pulsed, collect-after}
-use Rattle.station.specs.Histories.{Event, lodges, pulses, collects, History, made, _▸_, _then_, Run, Happens, Step, Occurs, Given, Tells, Unfinished, pulses-in}
-use Rattle.station.specs.Promises.{Always, In, Ended, Lists-unfinished, Ends-in-time}
-use Rattle.station.proofs.Costs.{cost, running-cost}
-use Rattle.station.proofs.Pulses.{Moves, pulse-moves}
-use Rattle.station.proofs.Numbers.{numbers, Rising, rising-below, not-held, in-held}
-use Rattle.station.proofs.Asking.{told, tells, told-own, Had, had, collected, told-unfinished, told-ended}
+use Rattle.station.specs.Stations.{Slip, Station, first, new-inquiry, lodge-cause, lodge-after, lodge-answer, outcome-of, replies, attempts, up-to-step-three, collect-after}
+use Rattle.station.specs.Histories.{Event, lodges, pulses, collects, History, _▸_, _then_, Run, Step, Given, pulses-in}
+use Rattle.station.specs.Promises.{Always, Ended, Lists-unfinished, Ends-in-time}
+use Rattle.station.proofs.Costs.{cost}
+use Rattle.station.proofs.Pulses.{pulse-moves}
+use Rattle.station.proofs.Numbers.{numbers, rising-below, not-held, in-held}
+use Rattle.station.proofs.Asking.{tells, told-own, Had, had, collected, told-unfinished, told-ended}
 use Rattle.station.proofs.Invariants.{Good, good, first-number}
-use Rattle.station.proofs.Slips.{slip-of, Slips, slips, given-on}
-use Rattle.station.proofs.Counting.{no-more, open-numbers, rising-open, open-held, total, total-bounded}
+use Rattle.station.proofs.Slips.{slip-of, slips, given-on}
+use Rattle.station.proofs.Counting.{no-more, open-numbers, rising-open, open-held, total-bounded}
 use Rattle.station.proofs.Waiting.{Open, sum-to, pause, wait-of, pulse-waits, lodge-waits, collect-waits, sum-new}
 
 -- after a call an inquiry is unfinished only if it was before, and a pulse leaves it a pulse less
@@ -96,7 +95,7 @@ falls-on n one two a b c f g is-open = let late = g is-open in let early = f (la
 
 -- through any calls
 follow : (later : List Event) (h : History) (s : Station) (n : ℕ) → Run (h then later) s → ((b : Station) → Run h b → n < b .next)
-  → (b : Station) × Run h b × Falls n (pulses-in later) (b .places) (s .places)
+    → (b : Station) × Run h b × Falls n (pulses-in later) (b .places) (s .places)
 follow [] h s n run less = (s, run, same-wait n (s .places))
 follow (e ∷ more) h s n run less =
     let further = follow more (h ▸ e) s n run (λ c was. omega (arith, less (was .0) (was .1), step-next (was .0) c e (was .2))) in
@@ -133,7 +132,7 @@ short-pause (Some q) = omega arith
 
 -- at its lodging an inquiry waits for those that are unfinished
 lodged-wait : (h : History) (b : Station) (c : ℕ) (d : List ℕ) (slip : Slip) (o : Option Refusal) (unfinished : List Slip) → Run h b → Ok slip ≡ lodge-answer b o
-  → Lists-unfinished h unfinished → wait-of (slip .number) (lodge-after b c d o .places) ≤ 71 + 70 * length unfinished
+    → Lists-unfinished h unfinished → wait-of (slip .number) (lodge-after b c d o .places) ≤ 71 + 70 * length unfinished
 lodged-wait h b c d slip (Some r) unfinished run a names = absurd (let z : _≡_ {A = ℕ} 0 1 = cc in omega arith)
 lodged-wait h b c d slip None unfinished run a names =
     let same : slip ≡ slip-of (b .mark) (b .next) = cc in
@@ -142,16 +141,16 @@ lodged-wait h b c d slip None unfinished run a names =
     let all = b .places ++ (new-inquiry (b .next) c d ∷ []) in
     let none = not-held (b .next) (b .places) (λ i. omega (arith, rising-below low (numbers (b .places)) (b .next) (b .next) (invariant .rising) i)) in
     let few = no-more (b .mark) low (open-numbers (b .places)) (b .next) unfinished (rising-open low (b .places) (b .next) (invariant .rising))
-        (λ m i. let it = open-held low (b .places) (b .next) m (invariant .rising) i in
-          names (slip-of (b .mark) m) (tells h b (slip-of (b .mark) m) (Err NotEnded) run
-            (told-own b (slip-of (b .mark) m) refl ∙ ap outcome-of (it .1) ∙ told-unfinished (it .0 .copies) (it .0 .stage) (it .2)))) in
+    (λ m i. let it = open-held low (b .places) (b .next) m (invariant .rising) i in
+    names (slip-of (b .mark) m) (tells h b (slip-of (b .mark) m) (Err NotEnded) run
+    (told-own b (slip-of (b .mark) m) refl ∙ ap outcome-of (it .1) ∙ told-unfinished (it .0 .copies) (it .0 .stage) (it .2)))) in
     let bound : wait-of (b .next) all ≤ 71 + 70 * length unfinished =
-        omega (arith, sum-new (b .next) (b .places) c d none, total-bounded (b .places) (invariant .bounded), few, short-pause (first under-way all)) in
+    omega (arith, sum-new (b .next) (b .places) c d none, total-bounded (b .places) (invariant .bounded), few, short-pause (first under-way all)) in
     subst (λ x. wait-of (x .number) all ≤ 71 + 70 * length unfinished) (sym same) bound
 
 ends : (others latest : ℕ) → 71 + 70 * others ≤ latest → (earlier : History) (c : ℕ) (d : List ℕ) (slip : Slip) (later : List Event) (unfinished : List Slip) (s : Station)
-  → Run ((earlier ▸ lodges c d (Ok slip)) then later) s → Lists-unfinished earlier unfinished → length unfinished ≤ others → latest ≤ pulses-in later
-  → Ended ((earlier ▸ lodges c d (Ok slip)) then later) slip
+    → Run ((earlier ▸ lodges c d (Ok slip)) then later) s → Lists-unfinished earlier unfinished → length unfinished ≤ others → latest ≤ pulses-in later
+    → Ended ((earlier ▸ lodges c d (Ok slip)) then later) slip
 unfolding Falls
 ends others latest enough earlier c d slip later unfinished s run names few long =
     let start = earlier ▸ lodges c d (Ok slip) in
@@ -161,17 +160,17 @@ ends others latest enough earlier c d slip later unfinished s run names few long
     let b = walked .1 .0 in
     let lodged = walked .1 .2 in
     let bound = subst (λ t. wait-of (slip .number) (t .places) ≤ 71 + 70 * length unfinished) (sym (lodged .1))
-        (lodged-wait earlier b c d slip (lodge-cause b c d) unfinished (walked .1 .1) (lodged .0) names) in
+    (lodged-wait earlier b c d slip (lodge-cause b c d) unfinished (walked .1 .1) (lodged .0) names) in
     let known = slips whole s run .given slip (given-then slip start later given) in
     ⊎-elim
     (λ i. let it = in-held (slip .number) (s .places) i in
-      let q = it .0 in
-      ⊎-elim
-      (λ over. let out = told-ended (q .copies) (q .stage) over in
-        inl (out .0, tells whole s slip (Ok (out .0)) run (told-own s slip (known .0) ∙ ap outcome-of (it .1) ∙ out .1)))
-      (λ still. let fell = walked .2 (q, it .1, still) in
-        absurd (omega (arith, fell .1, bound, open-cost (slip .number) (s .places) (q, it .1, still), long, few, enough)))
-      (cases-bool (has-ended (q .stage))))
+    let q = it .0 in
+    ⊎-elim
+    (λ over. let out = told-ended (q .copies) (q .stage) over in
+    inl (out .0, tells whole s slip (Ok (out .0)) run (told-own s slip (known .0) ∙ ap outcome-of (it .1) ∙ out .1)))
+    (λ still. let fell = walked .2 (q, it .1, still) in
+    absurd (omega (arith, fell .1, bound, open-cost (slip .number) (s .places) (q, it .1, still), long, few, enough)))
+    (cases-bool (has-ended (q .stage))))
     (λ handed. inr handed)
     (known .2)
 

@@ -1,9 +1,8 @@
 -- What holds of every station that a history leads to: rising numbers, the order of the inquiries, and pulses left.
 use mathlib.Core.Path.{_≡_, refl, sym, ap, subst, _∙_}
-use mathlib.Core.Bool.{Bool, true, false, cond}
-use mathlib.Core.List.{List, [], _∷_, _++_, append-assoc, append-nil}
-use mathlib.Core.Logic.{_⊎_, inl, inr, ⊎-elim}
-use Prim.Native.Nat.{ℕ, _+_, _≤_, _<_}
+use mathlib.Core.List.{List, [], _∷_, _++_, append-assoc}
+use mathlib.Core.Logic.{inr}
+use Prim.Native.Nat.{ℕ, _+_, _≤_}
 use native.Mathlib.Omega.{arith}
 use Rattle.std.specs.shelf.Lists.{All}
 use Rattle.std.specs.declared.option.Option.{Option}
@@ -13,15 +12,14 @@ use Rattle.std.specs.declared.result.Result.the-variants.{Ok, Err}
 use Rattle.frames.specs.Finding.{Found}
 use Rattle.lines.specs.Meaning.{Meaning}
 use Rattle.station.specs.declared.refusal.Refusal.{Refusal}
-use Rattle.station.specs.Inquiries.{Inquiry, has-ended, under-way, Outcome}
-use Rattle.station.specs.Exchange.{begun, opened}
-use Rattle.station.specs.Stations.{Slip, Station, fresh, first, new-inquiry, lodge-cause, lodge-after, lodge-answer, without, held-under, replies, attempts, up-to-step-three, Pulsed, collect-after, collect-answer}
+use Rattle.station.specs.Inquiries.{Inquiry, has-ended, Outcome}
+use Rattle.station.specs.Stations.{Slip, Station, first, new-inquiry, lodge-cause, lodge-after, without, held-under, replies, attempts, up-to-step-three, Pulsed, collect-after}
 use Rattle.station.specs.Histories.{Event, lodges, pulses, collects, History, made, _▸_, Run, Step}
-use Rattle.station.proofs.Turns.{Over, Unbegun, all-join, tries, moved}
+use Rattle.station.proofs.Turns.{Over, Unbegun, all-join, moved}
 use Rattle.station.proofs.Costs.{cost, moved-cost, ended-cost}
 use Rattle.station.proofs.Pulses.{Queue, Orderly, Moves, rests, starts, continues, finishes, hands-over, pulse-moves, moves-orderly}
 use Rattle.station.proofs.Numbers.{numbers, Rising, rising-push, numbers-pulse, numbers-join, rising-without, all-without, remove-past}
-use Rattle.station.proofs.Asking.{told, Had, had, collected}
+use Rattle.station.proofs.Asking.{Had, had, collected}
 
 pub all-split : {X : Type 0} (P : X → Type 0) (xs ys : List X) → All P (xs ++ ys) → All P xs × All P ys
 all-split P [] ys a = (tt, a)
@@ -44,16 +42,16 @@ queue-push (x ∷ more) q queued u = (queued .0, all-join Unbegun more (q ∷ []
 lodge-good : (low : ℕ) (s : Station) (c : ℕ) (d : List ℕ) (o : Option Refusal) → Good low s → Good low (lodge-after s c d o)
 lodge-good low s c d (Some r) good = good
 lodge-good low s c d None good = record {
-    rising = subst (λ ns. Rising low ns (s .next + 1)) (sym (numbers-join (s .places) (new-inquiry (s .next) c d ∷ []))) (rising-push low (numbers (s .places)) (s .next) (good .rising));
-    order = record {
-      past = good .order .past;
-      queue = good .order .queue ++ (new-inquiry (s .next) c d ∷ []);
-      split = ap (λ l. l ++ (new-inquiry (s .next) c d ∷ [])) (good .order .split) ∙ append-assoc (good .order .past) (good .order .queue) (new-inquiry (s .next) c d ∷ []);
-      over = good .order .over;
-      queued = queue-push (good .order .queue) (new-inquiry (s .next) c d) (good .order .queued) (refl, refl);
-    };
-    bounded = all-join Bounded (s .places) (new-inquiry (s .next) c d ∷ []) (good .bounded) (omega arith, tt);
-  }
+  rising = subst (λ ns. Rising low ns (s .next + 1)) (sym (numbers-join (s .places) (new-inquiry (s .next) c d ∷ []))) (rising-push low (numbers (s .places)) (s .next) (good .rising));
+  order = record {
+    past = good .order .past;
+    queue = good .order .queue ++ (new-inquiry (s .next) c d ∷ []);
+    split = ap (λ l. l ++ (new-inquiry (s .next) c d ∷ [])) (good .order .split) ∙ append-assoc (good .order .past) (good .order .queue) (new-inquiry (s .next) c d ∷ []);
+    over = good .order .over;
+    queued = queue-push (good .order .queue) (new-inquiry (s .next) c d) (good .order .queued) (refl, refl);
+  };
+  bounded = all-join Bounded (s .places) (new-inquiry (s .next) c d ∷ []) (good .bounded) (omega arith, tt);
+}
 
 -- an ended inquiry that is collected leaves the others in order
 collect-good : (low : ℕ) (s : Station) (slip : Slip) (r : Result Outcome Refusal) → ((o : Outcome) → r ≡ Ok o → Had s slip o) → Good low s → Good low (collect-after s slip r)
@@ -89,7 +87,7 @@ module _ (fs : List (ℕ × Found)) (capacity : ℕ) (outgoing : List ℕ) where
   moves-bounded {es} a b (hands-over q next more e way w done f t) =
       subst (All Bounded) (sym f)
       (all-join Bounded (es ++ (moved fs q ∷ [])) _ (all-join Bounded es (moved fs q ∷ []) a (omega (arith, ended-cost (moved fs q .stage) done), tt))
-       (omega arith, subst (All Bounded) e b .1 .1))
+      (omega arith, subst (All Bounded) e b .1 .1))
 
 pulse-good : (low : ℕ) (s t : Station) (line line-after : Meaning) → Pulsed s line t line-after → Good low s → Good low t
 pulse-good low s t line line-after p good =
@@ -102,7 +100,7 @@ pulse-good low s t line line-after p good =
     let bounds = all-split Bounded past queue (subst (All Bounded) (good .order .split) (good .bounded)) in
     record {
       rising = subst (Rising low (numbers (t .places))) (sym (p .next))
-        (subst (λ ns. Rising low ns (s .next)) (sym (ap numbers (p .places) ∙ numbers-pulse fs (line .capacity) out (s .places))) (good .rising));
+          (subst (λ ns. Rising low ns (s .next)) (sym (ap numbers (p .places) ∙ numbers-pulse fs (line .capacity) out (s .places))) (good .rising));
       order = subst Orderly (sym list) (moves-orderly fs (line .capacity) out (good .order .over) moves);
       bounded = subst (All Bounded) (sym list) (moves-bounded fs (line .capacity) out (bounds .0) (bounds .1) moves);
     }

@@ -14,5 +14,14 @@ pub mod Waiting
 pub mod InTime
 pub mod Copies
 pub mod Books
+pub mod Bookkeeping
+pub mod SendingOrder
 pub mod Readings
 pub mod Evidence
+pub mod PulseEvidence
+pub mod AnswersRead
+pub mod Balances
+pub mod Trying
+pub mod Keeping
+pub mod Searches
+pub mod Cases

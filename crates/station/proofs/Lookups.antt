@@ -1,12 +1,12 @@
 -- What looking up by a number finds after one more is lodged, after a pulse, and after another is removed.
 use mathlib.Core.Path.{_≡_, refl, sym, ap, subst, _∙_}
-use mathlib.Core.Bool.{Bool, true, false, cond}
+use mathlib.Core.Bool.{Bool, false, cond}
 use mathlib.Core.List.{List, [], _∷_, _++_}
 use mathlib.Core.Logic.{_⊎_, inl, inr, ⊎-elim}
-use Prim.Native.Nat.{ℕ, _+_, _≤_, _<_}
+use Prim.Native.Nat.{ℕ, _+_}
 use native.Mathlib.Omega.{arith}
 use lib.Dec.{eqb}
-use Rattle.std.proofs.shelf.Tests.{cond-both, cond-true, cond-false, eqb-true, eqb-false, eq-eqb, ne-eqb}
+use Rattle.std.proofs.shelf.Tests.{cond-both, cond-true, cond-false, eqb-true, ne-eqb}
 use Rattle.std.specs.declared.option.Option.{Option}
 use Rattle.std.specs.declared.option.Option.the-variants.{Some, None}
 use Rattle.frames.specs.Finding.{Found}
@@ -58,14 +58,14 @@ held-without n m (x ∷ qs) apart =
 
 -- an inquiry that has ended stays as it is
 held-change : (passes : Stage → Bool) (f : Inquiry → Inquiry) → ((e : _) → passes (ended e) ≡ false) → ((q : Inquiry) → f q .number ≡ q .number)
-  → (n : ℕ) (qs : List Inquiry) (q : Inquiry) → held-under n qs ≡ Some q → Over q → held-under n (change passes f qs) ≡ Some q
+    → (n : ℕ) (qs : List Inquiry) (q : Inquiry) → held-under n qs ≡ Some q → Over q → held-under n (change passes f qs) ≡ Some q
 held-change passes f fails keeps n [] q e over = e
 held-change passes f fails keeps n (x ∷ qs) q e over =
     cond-both (eqb (x .number) n) _ _ (λ o. o ≡ Some q → held-under n (change passes f (x ∷ qs)) ≡ Some q)
     (λ t is. let same : q ≡ x = cc in
-      ap (held-under n) (cond-false _ _ _ (over-fails passes fails (x .stage) (subst Over same over))) ∙ cond-true _ _ _ t ∙ is)
+    ap (held-under n) (cond-false _ _ _ (over-fails passes fails (x .stage) (subst Over same over))) ∙ cond-true _ _ _ t ∙ is)
     (λ t is. cond-both (passes (x .stage)) _ _ (λ l. held-under n l ≡ Some q)
-      (λ p. cond-false _ _ _ (ap (λ m. eqb m n) (keeps x) ∙ t) ∙ is) (λ p. cond-false _ _ _ t ∙ held-change passes f fails keeps n qs q is over))
+    (λ p. cond-false _ _ _ (ap (λ m. eqb m n) (keeps x) ∙ t) ∙ is) (λ p. cond-false _ _ _ t ∙ held-change passes f fails keeps n qs q is over))
     e
 
 held-begin : (n : ℕ) (o : Option Inquiry) (qs : List Inquiry) (q : Inquiry) → held-under n qs ≡ Some q → Over q → held-under n (begins-unless o qs) ≡ Some q
@@ -73,7 +73,7 @@ held-begin n (Some x) qs q e over = e
 held-begin n None qs q e over = held-change waits-still begun (λ e. refl) (λ q. refl) n qs q e over
 
 pub held-pulse : (fs : List (ℕ × Found)) (capacity : ℕ) (outgoing : List ℕ) (n : ℕ) (qs : List Inquiry) (q : Inquiry) → held-under n qs ≡ Some q → Over q
-  → held-under n (attempts capacity outgoing (up-to-step-three fs qs)) ≡ Some q
+    → held-under n (attempts capacity outgoing (up-to-step-three fs qs)) ≡ Some q
 held-pulse fs capacity outgoing n qs q e over =
     let one = held-change under-way (heard fs) (λ e. refl) (λ q. refl) n qs q e over in
     let two = held-change under-way ticked (λ e. refl) (λ q. refl) n (hears fs qs) q one over in

@@ -1,17 +1,17 @@
 -- Numbers rise in the order lodged: what adding, changing and removing an inquiry does to them.
 use mathlib.Core.Path.{_≡_, refl, sym, ap, subst, _∙_}
-use mathlib.Core.Bool.{Bool, true, false, cond}
-use mathlib.Core.List.{List, [], _∷_, _++_, append-assoc}
-use mathlib.Core.Logic.{_⊎_, inl, inr, ⊎-elim}
+use mathlib.Core.Bool.{Bool}
+use mathlib.Core.List.{List, [], _∷_, _++_}
+use mathlib.Core.Logic.{inl, inr, ⊎-elim}
 use Prim.Native.Nat.{ℕ, _+_, _≤_, _<_}
 use native.Mathlib.Omega.{arith}
 use lib.Dec.{eqb}
 use Rattle.std.specs.shelf.Lists.{All}
-use Rattle.std.proofs.shelf.Tests.{cond-both, cond-true, cond-false, cases-bool, eqb-true, eqb-false, cases-eq, eq-eqb, ne-eqb}
+use Rattle.std.proofs.shelf.Tests.{cond-both, cond-true, cond-false, eqb-true, eqb-false, ne-eqb}
 use Rattle.std.specs.declared.option.Option.{Option}
 use Rattle.std.specs.declared.option.Option.the-variants.{Some, None}
 use Rattle.frames.specs.Finding.{Found}
-use Rattle.station.specs.Inquiries.{Stage, Inquiry, waiting, under-way, waits-still, has-ended, is-due}
+use Rattle.station.specs.Inquiries.{Stage, Inquiry, under-way, waits-still, has-ended, is-due}
 use Rattle.station.specs.Exchange.{heard, ticked, begun}
 use Rattle.station.specs.Stations.{change, first, begins-unless, attempts, up-to-step-three, hears, ends-periods, held-under, without}
 use Rattle.station.specs.Promises.{In}
@@ -136,11 +136,11 @@ queued-not-over (x ∷ more) q (way, wait) (inr i) over = unbegun-not-over q (al
 
 -- an ended inquiry that is looked up and removed stands before the queue
 pub remove-past : (n : ℕ) (es queue : List Inquiry) (q : Inquiry) → Queue queue → held-under n (es ++ queue) ≡ Some q → Over q
-  → (without n (es ++ queue) ≡ without n es ++ queue) × In q es
+    → (without n (es ++ queue) ≡ without n es ++ queue) × In q es
 remove-past n [] queue q queued is over = absurd (queued-not-over queue q queued (held-number n queue q is .2) over)
 remove-past n (e ∷ es) queue q queued found ended =
     cond-both (eqb (e .number) n) _ _ (λ o. o ≡ Some q → Over q → (without n ((e ∷ es) ++ queue) ≡ without n (e ∷ es) ++ queue) × In q (e ∷ es))
     (λ t is over. let same : e ≡ q = cc in (cond-true _ _ _ t ∙ ap (λ l. l ++ queue) (sym (cond-true _ _ _ t)), inl (sym same)))
     (λ t is over. let deeper = remove-past n es queue q queued is over in
-      (cond-false _ _ _ t ∙ ap (λ l. e ∷ l) (deeper .0) ∙ ap (λ l. l ++ queue) (sym (cond-false _ _ _ t)), inr (deeper .1)))
+    (cond-false _ _ _ t ∙ ap (λ l. e ∷ l) (deeper .0) ∙ ap (λ l. l ++ queue) (sym (cond-false _ _ _ t)), inr (deeper .1)))
     found ended

@@ -1,13 +1,12 @@
 -- The list of inquiries stays in order through a pulse: those that have ended, one under way, those that wait.
-use mathlib.Core.Path.{_≡_, refl, sym, ap, subst, _∙_}
-use mathlib.Core.Bool.{Bool, true, false, cond}
+use mathlib.Core.Path.{_≡_, refl, sym, ap, _∙_}
+use mathlib.Core.Bool.{true, false}
 use mathlib.Core.List.{List, [], _∷_, _++_, append-assoc, append-nil}
 use mathlib.Core.Logic.{_⊎_, inl, inr, ⊎-elim}
-use Prim.Native.Nat.{ℕ, _+_, _-_}
-use native.Mathlib.Omega.{arith}
+use Prim.Native.Nat.{ℕ, _+_}
 use lib.Dec.{leb}
 use Rattle.std.specs.shelf.Lists.{All}
-use Rattle.std.proofs.shelf.Tests.{cond-both, cases-bool}
+use Rattle.std.proofs.shelf.Tests.{cond-both}
 use Rattle.std.specs.declared.option.Option.{Option}
 use Rattle.std.specs.declared.option.Option.the-variants.{Some, None}
 use Rattle.frames.specs.Finding.{Found}
@@ -37,7 +36,7 @@ fails-not-waiting k (gives-up f e) = ap waits-still e
 heard-not-waiting : {q : Inquiry} {v : Found} {now later : Stage} → Hears q v now later → waits-still now ≡ false → waits-still later ≡ false
 heard-not-waiting (same e) w = ap waits-still e ∙ w
 heard-not-waiting (acknowledged k left e some f) w = ap waits-still f
-heard-not-waiting (refused k left e some f) w = fails-not-waiting k f
+heard-not-waiting (refused k left e some f g) w = fails-not-waiting k f
 heard-not-waiting (cut-off k left e some f) w = ap waits-still f
 heard-not-waiting (goes-by-radio left e is f) w = ap waits-still f
 heard-not-waiting (gets-answer left c d e is answers lawful apart f) w = ap waits-still f
@@ -92,23 +91,23 @@ opened-under-way (ended end) e = e
 pub data Moves (fs : List (ℕ × Found)) (capacity : ℕ) (outgoing : List ℕ) (es queue after : List Inquiry) (attempt : Option Inquiry) : Type 0 where
   rests : queue ≡ [] → after ≡ es → attempt ≡ None → Moves fs capacity outgoing es queue after attempt
   starts : (q : Inquiry) (more : List Inquiry) → queue ≡ q ∷ more → Unbegun q → All Unbegun more
-    → after ≡ es ++ (tries capacity outgoing (begun q) ∷ more) → attempt ≡ Some (begun q) → Moves fs capacity outgoing es queue after attempt
+      → after ≡ es ++ (tries capacity outgoing (begun q) ∷ more) → attempt ≡ Some (begun q) → Moves fs capacity outgoing es queue after attempt
   continues : (q : Inquiry) (more : List Inquiry) → queue ≡ q ∷ more → under-way (q .stage) ≡ true → All Unbegun more
-    → under-way (moved fs q .stage) ≡ true → after ≡ es ++ (tries capacity outgoing (moved fs q) ∷ more) → attempt ≡ if-due (moved fs q)
-    → Moves fs capacity outgoing es queue after attempt
+      → under-way (moved fs q .stage) ≡ true → after ≡ es ++ (tries capacity outgoing (moved fs q) ∷ more) → attempt ≡ if-due (moved fs q)
+      → Moves fs capacity outgoing es queue after attempt
   finishes : (q : Inquiry) → queue ≡ q ∷ [] → under-way (q .stage) ≡ true
-    → has-ended (moved fs q .stage) ≡ true → after ≡ es ++ (moved fs q ∷ []) → attempt ≡ None → Moves fs capacity outgoing es queue after attempt
+      → has-ended (moved fs q .stage) ≡ true → after ≡ es ++ (moved fs q ∷ []) → attempt ≡ None → Moves fs capacity outgoing es queue after attempt
   hands-over : (q next : Inquiry) (more : List Inquiry) → queue ≡ q ∷ (next ∷ more) → under-way (q .stage) ≡ true
-    → All Unbegun (next ∷ more) → has-ended (moved fs q .stage) ≡ true
-    → after ≡ (es ++ (moved fs q ∷ [])) ++ (tries capacity outgoing (begun next) ∷ more) → attempt ≡ Some (begun next)
-    → Moves fs capacity outgoing es queue after attempt
+      → All Unbegun (next ∷ more) → has-ended (moved fs q .stage) ≡ true
+      → after ≡ (es ++ (moved fs q ∷ [])) ++ (tries capacity outgoing (begun next) ∷ more) → attempt ≡ Some (begun next)
+      → Moves fs capacity outgoing es queue after attempt
 
 pub one-more : (es : List Inquiry) (q : Inquiry) → All Over es → has-ended (q .stage) ≡ true → All Over (es ++ (q ∷ []))
 one-more es q over e = all-join Over es (q ∷ []) over (e, tt)
 
 module _ (fs : List (ℕ × Found)) (capacity : ℕ) (outgoing : List ℕ) where
   ends : (es : List Inquiry) (q : Inquiry) (more : List Inquiry) → All Over es → under-way (q .stage) ≡ true → All Unbegun more → has-ended (moved fs q .stage) ≡ true
-    → Moves fs capacity outgoing es (q ∷ more) (attempts capacity outgoing (up-to-step-three fs (es ++ (q ∷ more)))) (first is-due (up-to-step-three fs (es ++ (q ∷ more))))
+      → Moves fs capacity outgoing es (q ∷ more) (attempts capacity outgoing (up-to-step-three fs (es ++ (q ∷ more)))) (first is-due (up-to-step-three fs (es ++ (q ∷ more))))
   ends es q [] over way wait done =
       let three = ends-last fs es over q done in
       let none = attempt-none capacity outgoing (es ++ (moved fs q ∷ [])) (one-more es (moved fs q) over done) in
@@ -121,7 +120,7 @@ module _ (fs : List (ℕ × Found)) (capacity : ℕ) (outgoing : List ℕ) where
       (ap (first is-due) three ∙ due-at (es ++ (moved fs q ∷ [])) (begun next) more both (wait .1))
 
   works : (es : List Inquiry) (q : Inquiry) (more : List Inquiry) → All Over es → (under-way (q .stage) ≡ true) ⊎ Unbegun q → All Unbegun more
-    → Moves fs capacity outgoing es (q ∷ more) (attempts capacity outgoing (up-to-step-three fs (es ++ (q ∷ more)))) (first is-due (up-to-step-three fs (es ++ (q ∷ more))))
+      → Moves fs capacity outgoing es (q ∷ more) (attempts capacity outgoing (up-to-step-three fs (es ++ (q ∷ more)))) (first is-due (up-to-step-three fs (es ++ (q ∷ more))))
   works es q more over (inr unbegun) wait =
       let three = begins-now fs es over q more wait (waits-on fs q unbegun) in
       starts q more refl unbegun wait
@@ -130,14 +129,14 @@ module _ (fs : List (ℕ × Found)) (capacity : ℕ) (outgoing : List ℕ) where
   works es q more over (inl way) wait =
       ⊎-elim
       (λ still. let three = goes-on fs es over q more wait still in
-        continues q more refl way wait still
-        (ap (attempts capacity outgoing) three ∙ attempt-at capacity outgoing es (moved fs q) more over wait)
-        (ap (first is-due) three ∙ due-at es (moved fs q) more over wait))
+      continues q more refl way wait still
+      (ap (attempts capacity outgoing) three ∙ attempt-at capacity outgoing es (moved fs q) more over wait)
+      (ap (first is-due) three ∙ due-at es (moved fs q) more over wait))
       (λ done. ends es q more over way wait done)
       (moves-on fs q way)
 
   pub pulse-moves : (es queue : List Inquiry) → All Over es → Queue queue
-    → Moves fs capacity outgoing es queue (attempts capacity outgoing (up-to-step-three fs (es ++ queue))) (first is-due (up-to-step-three fs (es ++ queue)))
+      → Moves fs capacity outgoing es queue (attempts capacity outgoing (up-to-step-three fs (es ++ queue))) (first is-due (up-to-step-three fs (es ++ queue)))
   pulse-moves es [] over queued =
       let three = ap (up-to-step-three fs) (append-nil es) ∙ still-over fs es over in
       let none = attempt-none capacity outgoing es over in

@@ -1,7 +1,7 @@
 -- What pulse after pulse reads is what all the bytes taken since a silence hold.
 use mathlib.Core.Path.{_≡_, refl, sym, ap, subst, _∙_}
 use mathlib.Core.List.{List, [], _∷_, _++_, append-assoc}
-use mathlib.Core.Logic.{_⊎_, inl, inr, ⊎-elim}
+use mathlib.Core.Logic.{inl, inr, ⊎-elim}
 use Prim.Native.Nat.{ℕ, suc, _+_, _-_, _≤_, _<_}
 use native.Mathlib.Omega.{arith}
 use lib.ListN.{length, length-append, length-drop, take, drop, take-append-drop}
@@ -20,7 +20,7 @@ use Rattle.frames.proofs.Uniqueness.{waits-never}
 use Rattle.station.specs.declared.refusal.Refusal.{Refusal}
 use Rattle.station.specs.Inquiries.{Outcome}
 use Rattle.station.specs.Stations.{Slip, Station, taken, unless-silent, lodge-cause, lodge-after, collect-after}
-use Rattle.station.specs.Histories.{Event, lodges, pulses, collects, History, made, _▸_, Run}
+use Rattle.station.specs.Histories.{lodges, pulses, collects, History, made, _▸_, Run}
 use Rattle.station.specs.Promises.{In, since-silence, bytes-heard}
 
 -- a finding that is over within the first bytes is found in them
@@ -29,7 +29,7 @@ finds-front xs more v used within f =
     let both = f .noise ++ f .candidate in
     let long : length both ≡ used = length-append (f .noise) (f .candidate) ∙ sym (f .counted) in
     let front : take used xs ≡ both =
-        sym (take-append-le used xs more within) ∙ ap (take used) (f .split ∙ sym (append-assoc (f .noise) (f .candidate) (f .rest))) ∙ take-at both (f .rest) used long in
+    sym (take-append-le used xs more within) ∙ ap (take used) (f .split ∙ sym (append-assoc (f .noise) (f .candidate) (f .rest))) ∙ take-at both (f .rest) used long in
     record {
       noise = f .noise;
       candidate = f .candidate;
@@ -59,8 +59,8 @@ counted-from old new bytes ((place, v) ∷ more) after (n, at, f, rest) =
       there = (new + n, v) ∷ further .there;
       reading = (n, refl, f, further .reading);
       each = λ p w. ⊎-elim
-        (λ e. (new + n, inl (ap (λ x. (new + n, x .1)) e), omega arith))
-        (λ i. let it = further .each p w i in (it .0, inr (it .1), omega (arith, it .2)));
+          (λ e. (new + n, inl (ap (λ x. (new + n, x .1)) e), omega arith))
+          (λ i. let it = further .each p w i in (it .0, inr (it .1), omega (arith, it .2)));
     }
 
 -- bytes, and more bytes read on from what the first left open
@@ -86,12 +86,12 @@ first-joined from bytes held more ((place, v) ∷ now) after w (used, at, f, res
       extra = (from + (length bytes + n), v) ∷ further .there;
       reading = (length bytes + n, refl, found, further .reading);
       each = λ p x. ⊎-elim
-        (λ e. (from + (length bytes + n), inl (ap (λ y. (from + (length bytes + n), y .1)) e), omega (arith, past)))
-        (λ i. let it = further .each p x i in (it .0, inr (it .1), omega (arith, past, it .2)));
+          (λ e. (from + (length bytes + n), inl (ap (λ y. (from + (length bytes + n), y .1)) e), omega (arith, past)))
+          (λ i. let it = further .each p x i in (it .0, inr (it .1), omega (arith, past, it .2)));
     }
 
 pub joined : (from : ℕ) (bytes held more : List ℕ) (findings now : List (ℕ × Found)) (after : List ℕ) → Reading from bytes findings held → Reading 0 (held ++ more) now after
-  → Joined from bytes more findings now after
+    → Joined from bytes more findings now after
 joined from bytes held more [] now after w r = first-joined from bytes held more now after w r
 joined from bytes held more ((place, v) ∷ findings) now after (n, at, f, rest) r =
     let within = finds-within f in
@@ -107,7 +107,7 @@ nothing : Reading 0 [] [] []
 nothing = waits-held (none refl)
 
 by-taken : (bytes held : List ℕ) (findings now : List (ℕ × Found)) (after : List ℕ) (taken-now : List ℕ) → Reading 0 bytes findings held → Reading 0 (held ++ taken-now) now after
-  → (all : List (ℕ × Found)) × Reading 0 (since-silence bytes taken-now) all (unless-silent taken-now after)
+    → (all : List (ℕ × Found)) × Reading 0 (since-silence bytes taken-now) all (unless-silent taken-now after)
 by-taken bytes held findings now after [] r s = ([], nothing)
 by-taken bytes held findings now after (b ∷ more) r s = let both = joined 0 bytes held (b ∷ more) findings now after r s in (findings ++ both .extra, both .reading)
 

@@ -1,11 +1,10 @@
 -- What a pulse does to the list of inquiries: the first unfinished one moves, and where it ends the next begins.
-use mathlib.Core.Path.{_≡_, refl, sym, ap, subst, _∙_}
+use mathlib.Core.Path.{_≡_, refl, sym, ap, _∙_}
 use mathlib.Core.Bool.{Bool, true, false, cond}
-use mathlib.Core.List.{List, [], _∷_, _++_, append-assoc}
-use mathlib.Core.Logic.{_⊎_, inl, inr, ⊎-elim}
+use mathlib.Core.List.{List, [], _∷_, _++_}
+use mathlib.Core.Logic.{⊎-elim}
 use Prim.Native.Nat.{ℕ, _+_}
 use native.Mathlib.Omega.{arith}
-use lib.ListN.{length}
 use Rattle.std.specs.shelf.Lists.{All}
 use Rattle.std.proofs.shelf.Tests.{cond-true, cond-false, cases-bool}
 use Rattle.std.specs.declared.option.Option.{Option}
@@ -64,14 +63,14 @@ first-behind passes (q ∷ qs) more a = cond-false _ _ _ (a .0) ∙ first-behind
 
 -- one inquiry changes, if the others fail the test and the change leaves it alone where it fails too
 change-one : (passes : Stage → Bool) (f : Inquiry → Inquiry) (qs : List Inquiry) (q : Inquiry) (more : List Inquiry) → All (Fails passes) qs → All (Fails passes) more
-  → (passes (q .stage) ≡ false → f q ≡ q) → change passes f (qs ++ (q ∷ more)) ≡ qs ++ (f q ∷ more)
+    → (passes (q .stage) ≡ false → f q ≡ q) → change passes f (qs ++ (q ∷ more)) ≡ qs ++ (f q ∷ more)
 change-one passes f qs q more a b alone =
     change-behind passes f qs (q ∷ more) a
     ∙ ap (λ l. qs ++ l)
-      (⊎-elim
-       (λ e. cond-true _ _ _ e)
-       (λ e. cond-false _ _ _ e ∙ (λ i. sym (alone e) i ∷ change-none passes f more b i))
-       (cases-bool (passes (q .stage))))
+    (⊎-elim
+    (λ e. cond-true _ _ _ e)
+    (λ e. cond-false _ _ _ e ∙ (λ i. sym (alone e) i ∷ change-none passes f more b i))
+    (cases-bool (passes (q .stage))))
 
 -- frames that come while an inquiry is not under way leave it alone
 hear-alone : (q : Inquiry) (v : Found) (now : Stage) → under-way now ≡ false → hear q v now ≡ now
@@ -175,7 +174,7 @@ module _ (fs : List (ℕ × Found)) (qs : List Inquiry) (over : All Over qs) whe
 
   -- it has ended, and the next begins
   pub ends-next : (q next : Inquiry) (more : List Inquiry) → All Unbegun (next ∷ more) → has-ended (moved fs q .stage) ≡ true
-    → up-to-step-three fs (qs ++ (q ∷ (next ∷ more))) ≡ qs ++ (moved fs q ∷ (begun next ∷ more))
+      → up-to-step-three fs (qs ++ (q ∷ (next ∷ more))) ≡ qs ++ (moved fs q ∷ (begun next ∷ more))
   ends-next q next more wait e =
       ap begins (two-steps q (next ∷ more) wait)
       ∙ ap (λ o. begins-unless o (qs ++ (moved fs q ∷ (next ∷ more)))) (none-under-way q (next ∷ more) wait (over-fails under-way (λ e. refl) (moved fs q .stage) e))
@@ -187,7 +186,7 @@ abbrev pub if-due : Inquiry → Option Inquiry
 if-due q = cond (is-due (q .stage)) (Some q) None
 
 pub attempt-at : (capacity : ℕ) (outgoing : List ℕ) (qs : List Inquiry) (q : Inquiry) (more : List Inquiry) → All Over qs → All Unbegun more
-  → attempts capacity outgoing (qs ++ (q ∷ more)) ≡ qs ++ (tries capacity outgoing q ∷ more)
+    → attempts capacity outgoing (qs ++ (q ∷ more)) ≡ qs ++ (tries capacity outgoing q ∷ more)
 attempt-at capacity outgoing qs q more over wait =
     change-one is-due (tries capacity outgoing) qs q more (overs-fail is-due (λ e. refl) qs over) (unbegun-fail is-due refl more wait)
     (attempted-alone (has-space capacity outgoing (written (own-frame q))) q)

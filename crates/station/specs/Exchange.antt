@@ -1,18 +1,17 @@
 -- What one inquiry does in a pulse: by a frame that is found, by a period's end, by its turn and by a due attempt.
 use Prim.Native.Nat.{ℕ, _+_, _-_}
-use mathlib.Core.Bool.{Bool, true, false, cond, _&&_, _||_}
+use mathlib.Core.Bool.{Bool, cond, _&&_, _||_}
 use mathlib.Core.List.{List, [], _∷_}
 use lib.Dec.{eqb, leb, ltb}
 use lib.ListN.{getD, take}
 use Rattle.std.specs.shelf.Text.{sameBytes}
 use Rattle.std.specs.declared.option.Option.{Option}
 use Rattle.std.specs.declared.option.Option.the-variants.{Some, None}
-use Rattle.frames.specs.declared.finding.Cause.{Cause}
 use Rattle.frames.specs.declared.finding.Cause.the-variants.{Length, End, Check}
 use Rattle.frames.specs.Finding.{Found, frame, dropped}
 use Rattle.station.specs.declared.fault.Fault.the-variants.{NotSent, NotAcknowledged, ErrorReply, NoAnswer, NoRadioAnswer}
 use Rattle.station.specs.Commands.{answer-of, radio-answer, is-answer, lawful-answer}
-use Rattle.station.specs.Inquiries.{Ending, answered, failed, Stage, waiting, due, acknowledging, answering, receiving, ended, Inquiry, Frame, at-stage}
+use Rattle.station.specs.Inquiries.{answered, failed, Stage, waiting, due, acknowledging, answering, receiving, ended, Inquiry, Frame, at-stage}
 
 -- How often an inquiry is tried.
 abbrev pub most-attempts : ℕ

@@ -1,15 +1,15 @@
 -- Every list of calls on a station, and what is read off it: slips, pulses, bytes and outcomes.
 use Prim.Native.Nat.{ℕ, _+_, _≤_}
 use mathlib.Core.Path.{_≡_}
-use mathlib.Core.List.{List, [], _∷_, _++_}
+use mathlib.Core.List.{List, [], _∷_}
 use mathlib.Core.Logic.{_⊎_}
 use Rattle.std.specs.declared.result.Result.{Result}
 use Rattle.std.specs.declared.result.Result.the-variants.{Ok, Err}
 use Rattle.lines.specs.Meaning.{Meaning}
 use Rattle.station.specs.declared.refusal.Refusal.{Refusal}
-use Rattle.station.specs.declared.refusal.Refusal.the-variants.{NumberNotHeld, NotEnded}
+use Rattle.station.specs.declared.refusal.Refusal.the-variants.{NotEnded}
 use Rattle.station.specs.Inquiries.{Outcome}
-use Rattle.station.specs.Stations.{Slip, Station, fresh, least-memory, lodge-cause, lodge-answer, lodge-after, Pulsed, collect-answer, collect-after, taken}
+use Rattle.station.specs.Stations.{Slip, Station, fresh, least-memory, lodge-cause, lodge-answer, lodge-after, Pulsed, collect-answer, collect-after}
 
 -- A call with what it answered; a pulse with what its line meant before and after.
 pub data Event : Type 0 where
@@ -24,7 +24,6 @@ Step before (pulses line line-after) after = Pulsed before line after line-after
 Step before (collects slip memory answer) after = (answer ≡ collect-answer before slip memory) × (after ≡ collect-after before slip answer)
 
 infixl 20 _▸_
-
 -- A station made with a mark and a first number, and then one call after another.
 pub data History : Type 0 where
   made : ℕ → ℕ → History
@@ -40,7 +39,6 @@ abbrev pub Happens : History → Type 0
 Happens history = (s : Station) × Run history s
 
 infixl 15 _then_
-
 -- The history goes on with these calls.
 abbrev pub _then_ : History → List Event → History
 history then [] = history

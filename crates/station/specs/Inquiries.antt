@@ -1,7 +1,7 @@
 -- An inquiry: what was lodged, and how far it has come.
 use Prim.Native.Nat.{ℕ}
-use mathlib.Core.Bool.{Bool, true, false, cond}
-use mathlib.Core.List.{List, [], _∷_}
+use mathlib.Core.Bool.{Bool, true, false}
+use mathlib.Core.List.{List}
 use Rattle.frames.specs.Frame.{frame-bytes}
 use Rattle.station.specs.declared.fault.Fault.{Fault}
 

@@ -5,3 +5,7 @@ pub mod Exchange
 pub mod Stations
 pub mod Histories
 pub mod Promises
+pub mod Attempts
+pub mod Keeping
+pub mod Computing
+pub mod Samples

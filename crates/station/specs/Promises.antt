@@ -1,7 +1,7 @@
 -- What holds of every history of a station, in terms of calls, slips, pulses, frames, bytes and outcomes.
-use Prim.Native.Nat.{ℕ, _+_, _*_, _≤_, _<_}
+use Prim.Native.Nat.{ℕ, _+_, _≤_, _<_}
 use mathlib.Core.Path.{_≡_}
-use mathlib.Core.Bool.{Bool, true, false, cond, _||_}
+use mathlib.Core.Bool.{Bool, true, cond, _||_}
 use mathlib.Core.List.{List, [], _∷_, _++_, map}
 use mathlib.Core.Logic.{_⊎_}
 use lib.ListN.{length, getD, take, replicate}
@@ -12,7 +12,7 @@ use Rattle.frames.specs.Finding.{Found, frame}
 use Rattle.frames.specs.Promises.{Reading}
 use Rattle.lines.specs.Meaning.{Meaning}
 use Rattle.station.specs.declared.refusal.Refusal.{Refusal}
-use Rattle.station.specs.declared.refusal.Refusal.the-variants.{OtherMark, NumberNotHeld, NotEnded}
+use Rattle.station.specs.declared.refusal.Refusal.the-variants.{OtherMark, NumberNotHeld}
 use Rattle.station.specs.Commands.{answer-of, radio-answer, lawful-answer}
 use Rattle.station.specs.Inquiries.{answered, Outcome, Frame, written}
 use Rattle.station.specs.Exchange.{ack, nak, error, is}
@@ -74,9 +74,9 @@ pub record Hands-out-once (earlier : History) (event : Event) : Type 0 where
   pub gives : Gives earlier event
   pub hands : Hands earlier event
   pub until-ended : (slip : Slip) → Unfinished earlier slip
-    → Unfinished (earlier ▸ event) slip ⊎ (Is-pulse event × ((outcome : Outcome) × Tells (earlier ▸ event) slip (Ok outcome)))
+      → Unfinished (earlier ▸ event) slip ⊎ (Is-pulse event × ((outcome : Outcome) × Tells (earlier ▸ event) slip (Ok outcome)))
   pub until-handed : (slip : Slip) (outcome : Outcome) → Tells earlier slip (Ok outcome)
-    → Tells (earlier ▸ event) slip (Ok outcome) ⊎ ((memory : ℕ) × (event ≡ collects slip memory (Ok outcome)))
+      → Tells (earlier ▸ event) slip (Ok outcome) ⊎ ((memory : ℕ) × (event ≡ collects slip memory (Ok outcome)))
 
 -- Collecting answers 8 until the inquiry has ended, from then on the one outcome, and 7 once it was handed out; and no other slip is handed anything.
 abbrev pub Collects-by-the-rules : History → Type 0
@@ -138,7 +138,7 @@ pub record Sends-in-order (most : ℕ) (whole : History) : Type 0 where
   pub in-order : requests frames ≡ all-copies tally
   pub at-most : All (λ t. t .copies ≤ most) tally
   pub counted : (slip : Slip) (outcome : Outcome) → Handed slip outcome whole
-    → (t : Tally) × In t tally × (t .lodging .slip ≡ slip) × (t .copies ≡ outcome .copies)
+      → (t : Tally) × In t tally × (t .lodging .slip ≡ slip) × (t .copies ≡ outcome .copies)
 
 -- The bytes taken since the last pulse that took none.
 abbrev pub since-silence : List ℕ → List ℕ → List ℕ

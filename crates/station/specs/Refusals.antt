@@ -1,9 +1,5 @@
 -- The numbers of this level's refusals and faults.
 use Prim.Native.Nat.{ℕ}
-use Rattle.std.specs.declared.option.Option.{Option}
-use Rattle.std.specs.declared.option.Option.the-variants.{Some, None}
-use Rattle.std.specs.declared.result.Result.{Result}
-use Rattle.std.specs.declared.result.Result.the-variants.{Ok, Err}
 use Rattle.station.specs.declared.refusal.Refusal.{Refusal}
 use Rattle.station.specs.declared.refusal.Refusal.the-variants.{UnknownCommand, DataLength, PlacesTaken, NumbersUsedUp, MemoryShort, OtherMark, NumberNotHeld, NotEnded}
 use Rattle.station.specs.declared.fault.Fault.{Fault}

@@ -2,3 +2,4 @@
 pub mod fault;
 pub mod promises;
 pub mod refusal;
+pub mod samples;

@@ -1,5 +1,5 @@
 use mathlib.Core.Path.{refl}
-use Rattle.station.proofs.Evidence.{answers-were-read}
+use Rattle.station.proofs.AnswersRead.{answers-were-read}
 use Rattle.station.proofs.promises.address_length.Needs as need
 
 pub returns : need.returns

@@ -1,0 +1,32 @@
+// Calls that need nothing made before: writing a frame.
+use frames::refusal::Refusal;
+use frames::writing::write;
+use std::alloc::AllocError;
+use std::alloc::Global;
+
+use super::bytes::shown;
+use super::command::FreeCall;
+use super::mistake::Mistake;
+use super::mistake::MistakeFromAlloc;
+
+pub fn answer_free(heap: Global, call: &FreeCall) -> Result<String, Mistake> {
+    match call {
+        FreeCall::Write { memory, cmd, data } => Ok(written(heap, *memory, *cmd, data.as_slice())?),
+    }
+}
+
+// Writes a frame into so many bytes of memory, and shows it.
+fn written(heap: Global, memory: usize, cmd: u8, data: &[u8]) -> Result<String, AllocError> {
+    let mut memory = vec![in heap; 0u8; memory]?;
+    match write(&mut memory, cmd, data) {
+        Ok(count) => shown(heap, "wrote", memory.get(0..count).unwrap_or(&[])),
+        Err(refusal) => {
+            let number = refusal.number();
+            let name = match refusal {
+                Refusal::DataTooLong => "DataTooLong",
+                Refusal::MemoryShort => "MemoryShort",
+            };
+            format!(heap, "refused {number} {name}")
+        }
+    }
+}
