@@ -30,8 +30,8 @@ balance-after : (copies lacking k : ℕ) → copies + lacking ≡ k → k ≤ 4 
 balance-after copies lacking k e few =
     cond-both (ltb k 4) _ _ (Balance copies lacking) (λ t. (omega (arith, e), omega (arith, ltb-true k 4 t)))
     (λ t. let last : copies + lacking ≡ 4 = omega (arith, e, few, ltb-false k 4 t) in
-      cond-both (eqb copies 0) _ _ (Earned 4 copies lacking)
-      (λ u. (eqb-true copies 0 u, omega (arith, last, eqb-true copies 0 u))) (λ u. (eqb-false copies 0 u, last)))
+    cond-both (eqb copies 0) _ _ (Earned 4 copies lacking)
+    (λ u. (eqb-true copies 0 u, omega (arith, last, eqb-true copies 0 u))) (λ u. (eqb-false copies 0 u, last)))
 
 module _ (q : Inquiry) (lacking : ℕ) where
   heard-balance : {v : Found} {now later : Stage} → Hears q v now later → Balance (q .copies) lacking now → Balance (q .copies) lacking later
@@ -58,7 +58,7 @@ module _ (q : Inquiry) (lacking : ℕ) where
 
 -- an attempt that is due is put, or lacks space
 pub attempt-balance : (space : Bool) (copies lacking : ℕ) (now : Stage) → is-due now ≡ true → Balance copies lacking now
-  → ((space ≡ true) × Balance (counted space now copies) lacking (opened now)) ⊎ ((space ≡ false) × Balance (counted space now copies) (lacking + 1) (opened now))
+    → ((space ≡ true) × Balance (counted space now copies) lacking (opened now)) ⊎ ((space ≡ false) × Balance (counted space now copies) (lacking + 1) (opened now))
 attempt-balance space copies lacking waiting e b = clash e
 attempt-balance space copies lacking (due k) e b =
     cond-both space _ _ (λ n. ((space ≡ true) × ((n + lacking ≡ k) × (k ≤ 4))) ⊎ ((space ≡ false) × ((n + (lacking + 1) ≡ k) × (k ≤ 4))))

@@ -102,9 +102,6 @@ collect-books h b slip memory (Ok o) has books = record {
   handed = by-handed;
 }
   where
-    it : Had b slip o
-    it = has o refl
-
     removed : (without (slip .number) (books .past ++ books .queue) ≡ without (slip .number) (books .past) ++ books .queue) × In (has o refl .inquiry) (books .past)
     removed =
         remove-past (slip .number) (books .past) (books .queue) (has o refl .inquiry) (books .queued)

@@ -72,14 +72,14 @@ module _ (h : History) (b s : Station) (line line-after : Meaning) (p : Pulsed b
   three-tried a =
       let fs = p .findings in
       let one = change-all under-way (heard fs) Before Before (b .places) (λ q x. x)
-          (λ q is x. record { lacking = x .lacking; lacked = x .lacked; balance = hear-all-balance q (x .lacking) fs (q .stage) (x .balance) }) a in
+      (λ q is x. record { lacking = x .lacking; lacked = x .lacked; balance = hear-all-balance q (x .lacking) fs (q .stage) (x .balance) }) a in
       let two = change-all under-way ticked Before Before (hears fs (b .places)) (λ q x. x)
-          (λ q is x. record { lacking = x .lacking; lacked = x .lacked; balance = tick-balance q (x .lacking) (q .stage) (x .balance) }) one in
+      (λ q is x. record { lacking = x .lacking; lacked = x .lacked; balance = tick-balance q (x .lacking) (q .stage) (x .balance) }) one in
       begins-tried (first under-way (ends-periods (hears fs (b .places)))) (ends-periods (hears fs (b .places))) two
 
   -- the attempt of this pulse
   tries-tried : (q : Inquiry) → first is-due (up-to-step-three (p .findings) (b .places)) ≡ Some q → Before q
-    → After (tries (line .capacity) (replies (line .capacity) (p .findings) (line .outgoing)) q)
+      → After (tries (line .capacity) (replies (line .capacity) (p .findings) (line .outgoing)) q)
   unfolding Before After
   tries-tried q is x =
       let out = replies (line .capacity) (p .findings) (line .outgoing) in
@@ -88,8 +88,8 @@ module _ (h : History) (b s : Station) (line line-after : Meaning) (p : Pulsed b
       ⊎-elim
       (λ y. record { lacking = x .lacking; lacked = inl (x .lacked); balance = y .1 })
       (λ n. let none = p .outgoing ∙ ap (λ o. put (line .capacity) out (due-frame o)) is ∙ cond-false _ _ _ (n .0) in
-        let short = leb-false (length out + length (written (own-frame q))) (line .capacity) (n .0) in
-        record { lacking = x .lacking + 1; lacked = inr (x .lacking, refl, omega (arith, ap length none, short, p .capacity), x .lacked); balance = n .1 })
+      let short = leb-false (length out + length (written (own-frame q))) (line .capacity) (n .0) in
+      record { lacking = x .lacking + 1; lacked = inr (x .lacking, refl, omega (arith, ap length none, short, p .capacity), x .lacked); balance = n .1 })
       (attempt-balance space (q .copies) (x .lacking) (q .stage) due-now (x .balance))
 
   pulse-tried : All-tried h (b .mark) (b .places) → All-tried (h ▸ pulses line line-after) (s .mark) (s .places)
@@ -97,11 +97,11 @@ module _ (h : History) (b s : Station) (line line-after : Meaning) (p : Pulsed b
   pulse-tried a =
       let out = replies (line .capacity) (p .findings) (line .outgoing) in
       let final = change-all is-due (tries (line .capacity) out) Before After (up-to-step-three (p .findings) (b .places))
-          (λ q x. tried-on h (pulses line line-after) (slip-of (b .mark) (q .number)) q x) tries-tried (three-tried a) in
+      (λ q x. tried-on h (pulses line line-after) (slip-of (b .mark) (q .number)) q x) tries-tried (three-tried a) in
       subst (λ m. All-tried (h ▸ pulses line line-after) m (s .places)) (sym (p .mark)) (subst (All-tried (h ▸ pulses line line-after) (b .mark)) (sym (p .places)) final)
 
 lodge-tried : (h : History) (b : Station) (c : ℕ) (d : List ℕ) (o : Option Refusal) → All-tried h (b .mark) (b .places)
-  → All-tried (h ▸ lodges c d (lodge-answer b o)) (lodge-after b c d o .mark) (lodge-after b c d o .places)
+    → All-tried (h ▸ lodges c d (lodge-answer b o)) (lodge-after b c d o .mark) (lodge-after b c d o .places)
 lodge-tried h b c d (Some r) a = all-map (λ q. tried-on h (lodges c d (Err r)) (slip-of (b .mark) (q .number)) q) (b .places) a
 lodge-tried h b c d None a =
     let e = lodges c d (Ok (slip-of (b .mark) (b .next))) in
@@ -110,7 +110,7 @@ lodge-tried h b c d None a =
     (record { lacking = 0; lacked = inl (refl, refl); balance = omega arith }, tt)
 
 collect-tried : (h : History) (b : Station) (slip : Slip) (memory : ℕ) (r : Result Outcome Refusal) → All-tried h (b .mark) (b .places)
-  → All-tried (h ▸ collects slip memory r) (collect-after b slip r .mark) (collect-after b slip r .places)
+    → All-tried (h ▸ collects slip memory r) (collect-after b slip r .mark) (collect-after b slip r .places)
 collect-tried h b slip memory (Err r) a = all-map (λ q. tried-on h (collects slip memory (Err r)) (slip-of (b .mark) (q .number)) q) (b .places) a
 collect-tried h b slip memory (Ok o) a =
     let e = collects slip memory (Ok o) in
@@ -121,7 +121,7 @@ tried (made m n) s e = subst (λ t. All-tried (made m n) (t .mark) (t .places)) 
 tried (h ▸ lodges c d answer) s (b, run, (a, e)) =
     subst (λ t. All-tried (h ▸ lodges c d answer) (t .mark) (t .places)) (sym e)
     (subst (λ r. All-tried (h ▸ lodges c d r) (lodge-after b c d (lodge-cause b c d) .mark) (lodge-after b c d (lodge-cause b c d) .places)) (sym a)
-     (lodge-tried h b c d (lodge-cause b c d) (tried h b run)))
+    (lodge-tried h b c d (lodge-cause b c d) (tried h b run)))
 tried (h ▸ pulses line line-after) s (b, run, p) = pulse-tried h b s line line-after p (tried h b run)
 tried (h ▸ collects slip memory answer) s (b, run, (a, e)) =
     subst (λ t. All-tried (h ▸ collects slip memory answer) (t .mark) (t .places)) (sym e) (collect-tried h b slip memory answer (tried h b run))
@@ -137,7 +137,9 @@ handed-tried h b slip o f run it is =
     let own = same-slip (slip-of (b .mark) (q .number)) slip (sym (it .own)) (number .0) in
     let balance = subst (Balance (q .copies) (t .lacking)) (it .at ∙ ap ended is) (t .balance) in
     record {
-      cmd = q .cmd; sent = q .sent; lacking = t .lacking;
+      cmd = q .cmd;
+      sent = q .sent;
+      lacking = t .lacking;
       lacked = subst (λ x. Lacked-space h (q .cmd) (q .sent) x (t .lacking)) own (t .lacked);
       earned = subst (λ n. Earned 4 n (t .lacking) f) (it .copies) balance;
     }

@@ -71,10 +71,6 @@ open-head n q new more same still (x, held, is-open) =
     (λ t is. (x, cond-false _ _ _ (ap (λ m. eqb m n) (sym same) ∙ t) ∙ is, is-open))
     held
 
--- an ended one at the front is not it
-open-behind : (n : ℕ) (e : Inquiry) (more : List Inquiry) → Over e → Open n (e ∷ more) → (e .number ≡ n → ⊥) × Open n more
-open-behind n e more over is-open = let it = past-apart n (e ∷ []) more (over, tt) is-open in (it .0 .0, it .1)
-
 over-none : (n : ℕ) (es : List Inquiry) → All Over es → Open n es → ⊥
 over-none n es over (q, held, still) = clash (sym still ∙ all-in Over es q over (held-number n es q held .2))
 

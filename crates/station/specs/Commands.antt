@@ -16,6 +16,7 @@ pub record Row : Type 0 where
   pub most : ℕ
   pub answer : ℕ
 
+-- A row of the table, in the order of its columns.
 abbrev pub row : ℕ → ℕ → ℕ → ℕ → Row
 row c l m a = record { cmd = c; least = l; most = m; answer = a }
 
@@ -47,6 +48,7 @@ abbrev pub row-cause : Option Row → ℕ → Option Refusal
 row-cause None n = Some UnknownCommand
 row-cause (Some r) n = cond (within (r .least) (r .most) n) None (Some DataLength)
 
+-- Why a request cannot be lodged by the table, if it cannot.
 abbrev pub request-cause : ℕ → ℕ → Option Refusal
 request-cause c n = row-cause (row-of c commands) n
 

@@ -23,6 +23,7 @@ pub record Read : Type 0 where
   pub findings : List (ℕ × Found)
   pub open-end : List ℕ
 
+-- A finding, and what is read behind it.
 abbrev pub behind : ℕ → Found → Read → Read
 behind place v r = record { findings = (place, v) ∷ r .findings; open-end = r .open-end }
 
@@ -31,6 +32,7 @@ abbrev pub read-next : (ℕ → List ℕ → Read) → ℕ → List ℕ → Opti
 read-next go-on from bytes None = record { findings = []; open-end = left-open bytes }
 read-next go-on from bytes (Some (v, used)) = behind (from + used) v (go-on (from + used) (drop used bytes))
 
+-- Reading on from a place, with at most so many findings.
 abbrev pub read-from : ℕ → ℕ → List ℕ → Read
 read-from zero from bytes = record { findings = []; open-end = left-open bytes }
 read-from (suc most) from bytes = read-next (read-from most) from bytes (search-from 0 bytes)
@@ -39,6 +41,7 @@ read-from (suc most) from bytes = read-next (read-from most) from bytes (search-
 abbrev pub read-all : List ℕ → Read
 read-all bytes = read-from (length bytes) 0 bytes
 
+-- The station after a pulse that reads this.
 abbrev pub station-after : Station → Meaning → Read → Station
 station-after s line r = record {
   mark = s .mark;
@@ -47,6 +50,7 @@ station-after s line r = record {
   held = unless-silent (taken line) (r .open-end);
 }
 
+-- The line after a pulse that reads this.
 abbrev pub line-after : Station → Meaning → Read → Meaning
 line-after s line r = record {
   waiting = left-waiting line;

@@ -29,13 +29,15 @@ answer-pulses = 21
 abbrev pub radio-pulses : ℕ
 radio-pulses = 31
 
--- The control frames: ACK, NAK and ERROR.
+-- ACK: the frame has come.
 abbrev pub ack : Frame
 ack = record { cmd = 0x06; body = [] }
 
+-- NAK: not understood, or damaged.
 abbrev pub nak : Frame
 nak = record { cmd = 0x15; body = [] }
 
+-- ERROR: no such command here.
 abbrev pub error : Frame
 error = record { cmd = 0x00; body = 0x01 ∷ [] }
 
@@ -93,6 +95,7 @@ abbrev pub hear-all : Inquiry → List (ℕ × Found) → Stage → Stage
 hear-all q [] now = now
 hear-all q ((place, v) ∷ more) now = hear-all q more (hear q v now)
 
+-- An inquiry after it has heard all that was found.
 abbrev pub heard : List (ℕ × Found) → Inquiry → Inquiry
 heard findings q = at-stage q (hear-all q findings (q .stage))
 
@@ -100,6 +103,7 @@ heard findings q = at-stage q (hear-all q findings (q .stage))
 abbrev pub shorter : ℕ → Stage → Stage → Stage
 shorter left over longer = cond (leb left 1) over longer
 
+-- The stage after step 2: each period has its own end.
 abbrev pub tick : ℕ → Stage → Stage
 tick copies waiting = waiting
 tick copies (due k) = due k
@@ -108,6 +112,7 @@ tick copies (answering left) = shorter left (ended (failed NoAnswer)) (answering
 tick copies (receiving left) = shorter left (ended (failed NoRadioAnswer)) (receiving (left - 1))
 tick copies (ended e) = ended e
 
+-- An inquiry after step 2.
 abbrev pub ticked : Inquiry → Inquiry
 ticked q = at-stage q (tick (q .copies) (q .stage))
 

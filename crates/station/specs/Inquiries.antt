@@ -15,7 +15,7 @@ pub record Outcome : Type 0 where
   pub copies : ℕ
   pub ending : Ending
 
--- How far an inquiry has come. Of a period, the last number tells with which pulse it ends: 1 is the next one that looks.
+-- How far an inquiry has come. The last number of a period is how many pulses it has left: it ends with the pulse that finds 1.
 pub data Stage : Type 0 where
   -- it has not begun
   waiting : Stage

@@ -64,6 +64,7 @@ Hands earlier (pulses line line-after) = Unit {0}
 Hands earlier (collects slip memory (Ok outcome)) = Given slip earlier × Tells earlier slip (Ok outcome)
 Hands earlier (collects slip memory (Err refusal)) = Unit {0}
 
+-- The call was a pulse.
 abbrev pub Is-pulse : Event → Type 0
 Is-pulse (lodges c d answer) = ⊥
 Is-pulse (pulses line line-after) = Unit {0}
@@ -145,6 +146,7 @@ abbrev pub since-silence : List ℕ → List ℕ → List ℕ
 since-silence before [] = []
 since-silence before (b ∷ bytes) = before ++ (b ∷ bytes)
 
+-- The bytes that the pulses of a history took since the last silence.
 abbrev pub bytes-heard : History → List ℕ
 bytes-heard (made m n) = []
 bytes-heard (earlier ▸ lodges c d answer) = bytes-heard earlier

@@ -18,10 +18,11 @@ use Rattle.station.specs.Computing.{reads, station-after, line-after}
 abbrev pub line-with : ℕ → List ℕ → Meaning
 line-with room bytes = record { waiting = bytes; outgoing = []; capacity = room }
 
--- A station with mark 7 and first number 1 at which one inquiry was lodged.
+-- The station after this was lodged.
 unfoldable pub lodged : Station → ℕ → List ℕ → Station
 lodged s c d = lodge-after s c d (lodge-cause s c d)
 
+-- A station with mark 7 and first number 1 at which this was lodged.
 abbrev pub one-lodged : ℕ → List ℕ → Station
 one-lodged c d = lodged (fresh 7 1) c d
 
@@ -30,6 +31,7 @@ unfoldable pub after-pulses : ℕ → (ℕ → List ℕ) → ℕ → ℕ → Sta
 after-pulses room brings zero i s = s
 after-pulses room brings (suc n) i s = after-pulses room brings n (i + 1) (station-after s (line-with room (brings i)) (reads s (line-with room (brings i))))
 
+-- The station after its first pulses.
 unfoldable pub pulsed : ℕ → (ℕ → List ℕ) → ℕ → Station → Station
 pulsed room brings n s = after-pulses room brings n 1 s
 
@@ -38,9 +40,11 @@ unfoldable pub puts-next : ℕ → (ℕ → List ℕ) → ℕ → Station → Li
 puts-next room brings n s =
     line-after (pulsed room brings n s) (line-with room (brings (n + 1))) (reads (pulsed room brings n s) (line-with room (brings (n + 1)))) .outgoing
 
+-- The slip of the inquiry lodged first.
 abbrev pub own-slip : Slip
 own-slip = record { mark = 7; number = 1 }
 
+-- What collecting that slip answers.
 abbrev pub told-by : Station → Result Outcome Refusal
 told-by s = collect-answer s own-slip 250
 
@@ -49,6 +53,7 @@ abbrev pub ending-answers : Ending → List ℕ → Bool
 ending-answers (answered d) expected = sameBytes d expected
 ending-answers (failed f) expected = false
 
+-- An outcome with this answer and so many copies.
 abbrev pub is-answered : Result Outcome Refusal → ℕ → List ℕ → Bool
 is-answered (Ok o) copies d = eqb (o .copies) copies && ending-answers (o .ending) d
 is-answered (Err r) copies d = false
@@ -58,6 +63,7 @@ abbrev pub ending-fails : Ending → ℕ → Bool
 ending-fails (answered d) number = false
 ending-fails (failed f) number = eqb (fault-number f) number
 
+-- An outcome with this fault and so many copies.
 abbrev pub is-failed : Result Outcome Refusal → ℕ → ℕ → Bool
 is-failed (Ok o) copies number = eqb (o .copies) copies && ending-fails (o .ending) number
 is-failed (Err r) copies number = false
@@ -67,9 +73,11 @@ abbrev pub is-refused : {X : Type 0} → Result X Refusal → ℕ → Bool
 is-refused (Ok x) number = false
 is-refused (Err r) number = eqb (refusal-number r) number
 
+-- Lodging is refused with this number.
 abbrev pub lodge-refused : Station → ℕ → List ℕ → ℕ → Bool
 lodge-refused s c d number = is-refused (lodge-answer s (lodge-cause s c d)) number
 
+-- A dead line brings nothing.
 abbrev pub dead : ℕ → List ℕ
 dead i = []
 
@@ -85,12 +93,15 @@ asked = 0xFF ∷ (0x02 ∷ (0x05 ∷ (0x50 ∷ (0x04 ∷ (0x6E ∷ (0xAC ∷ (0x
 abbrev pub told-value : List ℕ
 told-value = 0xFF ∷ (0x02 ∷ (0x06 ∷ (0x51 ∷ (0x00 ∷ (0x01 ∷ (0x2C ∷ (0x83 ∷ (0x03 ∷ []))))))))
 
+-- The bytes of an ACK.
 abbrev pub acknowledge : List ℕ
 acknowledge = written ack
 
+-- A station that is to read parameter 04.
 abbrev pub asking : Station
 asking = one-lodged 0x50 (0x04 ∷ [])
 
+-- ACK and answer both wait at pulse 2.
 abbrev pub answers-at-two : ℕ → List ℕ
 answers-at-two = at-pulse 2 (acknowledge ++ told-value) dead
 
@@ -98,13 +109,15 @@ answers-at-two = at-pulse 2 (acknowledge ++ told-value) dead
 abbrev pub sending : Station
 sending = one-lodged 0x20 (1 ∷ (2 ∷ (3 ∷ (4 ∷ (5 ∷ (6 ∷ []))))))
 
+-- The ACK waits at pulse 21.
 abbrev pub late : ℕ → List ℕ
 late = at-pulse 21 acknowledge dead
 
+-- And a 0x21 with 00 waits at pulse 41.
 abbrev pub later-still : ℕ → List ℕ
 later-still = at-pulse 41 (written (record { cmd = 0x21; body = 0x00 ∷ [] })) late
 
--- nine lodgings, one more than there are places
+-- Eight inquiries: all places are taken.
 unfoldable pub crowded : Station
 crowded =
     lodged (lodged (lodged (lodged (lodged (lodged (lodged asking 0x54 []) 0x54 []) 0x54 []) 0x54 []) 0x54 []) 0x54 []) 0x54 []

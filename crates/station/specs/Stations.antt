@@ -59,6 +59,7 @@ abbrev pub by-room : Station → Option Refusal → Option Refusal
 by-room s (Some r) = Some r
 by-room s None = cond (leb most-places (length (s .places))) (Some PlacesTaken) (cond (ltb last-number (s .next)) (Some NumbersUsedUp) None)
 
+-- Why lodging is refused, if it is.
 abbrev pub lodge-cause : Station → ℕ → List ℕ → Option Refusal
 lodge-cause s c d = by-room s (request-cause c (length d))
 
@@ -66,10 +67,12 @@ lodge-cause s c d = by-room s (request-cause c (length d))
 abbrev pub new-inquiry : ℕ → ℕ → List ℕ → Inquiry
 new-inquiry n c d = record { number = n; cmd = c; sent = d; copies = 0; stage = waiting }
 
+-- What lodging answers: the slip, or the refusal.
 abbrev pub lodge-answer : Station → Option Refusal → Result Slip Refusal
 lodge-answer s None = Ok (record { mark = s .mark; number = s .next })
 lodge-answer s (Some r) = Err r
 
+-- The station after lodging; a refusal leaves it as it was.
 abbrev pub lodge-after : Station → ℕ → List ℕ → Option Refusal → Station
 lodge-after s c d None = record { mark = s .mark; next = s .next + 1; places = s .places ++ (new-inquiry (s .next) c d ∷ []); held = s .held }
 lodge-after s c d (Some r) = s
@@ -97,6 +100,7 @@ abbrev pub begins-unless : Option Inquiry → List Inquiry → List Inquiry
 begins-unless (Some q) qs = qs
 begins-unless None qs = change waits-still begun qs
 
+-- Step 3, by the inquiry that is under way, if there is one.
 abbrev pub begins : List Inquiry → List Inquiry
 begins qs = begins-unless (first under-way qs) qs
 
@@ -127,10 +131,11 @@ due-frame (Some q) = Some (own-frame q)
 abbrev pub up-to-step-three : List (ℕ × Found) → List Inquiry → List Inquiry
 up-to-step-three findings qs = begins (ends-periods (hears findings qs))
 
--- The bytes that a pulse takes, and those that it leaves waiting.
+-- The bytes that a pulse takes.
 unfoldable pub taken : Meaning → List ℕ
 taken line = take most-taken (line .waiting)
 
+-- The bytes that a pulse leaves waiting.
 unfoldable pub left-waiting : Meaning → List ℕ
 left-waiting line = drop most-taken (line .waiting)
 
@@ -172,6 +177,7 @@ outcome-at n (answering left) = Err NotEnded
 outcome-at n (receiving left) = Err NotEnded
 outcome-at n (ended e) = Ok (record { copies = n; ending = e })
 
+-- What collecting an inquiry answers, if one is held under the number.
 abbrev pub outcome-of : Option Inquiry → Result Outcome Refusal
 outcome-of None = Err NumberNotHeld
 outcome-of (Some q) = outcome-at (q .copies) (q .stage)
