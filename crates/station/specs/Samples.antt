@@ -6,6 +6,7 @@ use lib.Dec.{eqb}
 use Rattle.std.specs.shelf.Text.{sameBytes}
 use Rattle.std.specs.declared.result.Result.{Result}
 use Rattle.std.specs.declared.result.Result.the-variants.{Ok, Err}
+use Rattle.frames.specs.Samples.{samples as frame-samples}
 use Rattle.lines.specs.Meaning.{Meaning}
 use Rattle.station.specs.declared.refusal.Refusal.{Refusal}
 use Rattle.station.specs.Refusals.{refusal-number, fault-number}
@@ -166,6 +167,6 @@ refused-samples =
     ∷ (is-refused (told-by (collect-after (pulsed 1024 dead 21 asking) own-slip (told-by (pulsed 1024 dead 21 asking)))) 7
     ∷ [])))))))
 
--- The one table.
+-- The one table: the cases of frames, which these join.
 unfoldable pub samples : List Bool
-samples = answered-samples ++ (dead-line-samples ++ (late-samples ++ refused-samples))
+samples = frame-samples ++ (answered-samples ++ (dead-line-samples ++ (late-samples ++ refused-samples)))
