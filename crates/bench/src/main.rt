@@ -1,4 +1,6 @@
 // bench: plays a script of calls from standard input and prints a line for each.
+#![tactic(auto)]
+
 mod arguments;
 mod bytes;
 mod card_sessions;

@@ -1,4 +1,6 @@
 // decode: what was said on a serial line, from a capture of its bytes.
+#![tactic(auto)]
+
 mod arguments;
 mod command;
 mod decoder;

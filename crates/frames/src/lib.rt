@@ -1,4 +1,6 @@
 // Serial frames of a radio card: their check value, writing them, and finding them in what a line brings.
+#![tactic(auto)]
+
 pub mod crc;
 pub mod finding;
 pub mod frame;

@@ -1,4 +1,6 @@
 // Lines: what a line means, a wire of two rings, a tape of a capture, and a box that spoils bytes to order.
+#![tactic(auto)]
+
 pub mod far_end;
 pub mod fault_box;
 pub mod line;

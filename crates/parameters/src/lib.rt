@@ -1,4 +1,6 @@
 // The ten parameters of a card, and stores that hold their values.
+#![tactic(auto)]
+
 pub mod image;
 pub mod made;
 pub mod noted;

@@ -1,4 +1,6 @@
 // The station's end of a serial cable: its rules, what they promise over every run, and the code of its calls, none of which is public yet.
+#![tactic(auto)]
+
 mod answer;
 mod command;
 mod control;
