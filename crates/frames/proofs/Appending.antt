@@ -1,9 +1,9 @@
 -- Writing one part after another: what is written so far, then the untouched rest of the memory.
-use Rattle.std.proofs.Common.{◌≡◌, ℕ, ◌+◌, ◌-◌, ◌/◌, ◌%◌, ◌<◌, ◌≤◌, List, [], ◌∷◌, ◌++◌, length, take, drop, set, sym, refl, ap, ◌∙◌, subst, append_assoc, arith, length-append}
+use Rattle.std.proofs.Common.{◌≡◌, ℕ, ◌+◌, ◌-◌, ◌/◌, ◌%◌, ◌<◌, ◌≤◌, List, [], ◌∷◌, ◌++◌, length, take, drop, set, sym, refl, ap, ◌∙◌, append_assoc, arith, length-append}
 use borrow.Rule.Slice.PartMut.{put_mid}
 use Rattle.std.proofs.lemmas.List.{drop_more, set_at, take_at, drop_at, drop-drop}
 use Rattle.frames.specs.Crc.{crc_of}
-use Rattle.frames.specs.Frame.{covered, stored, frame_bytes}
+use Rattle.frames.specs.Frame.{covered, frame_bytes}
 
 module _ (memory done : List ℕ) (n : ℕ) (upto : length done ≡ n) where
   -- one byte more

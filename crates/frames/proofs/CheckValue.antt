@@ -1,8 +1,8 @@
 -- The table method computes the check value: shifting is linear under exclusive or.
-use Rattle.std.proofs.Common.{◌≡◌, ℕ, zero, suc, ◌+◌, ◌*◌, ◌/◌, ◌%◌, ◌^◌, ◌<◌, true, false, cond, eqb, ◌⊎◌, List, [], ◌∷◌, map, get_or, sym, refl, ap, ◌∙◌, subst, inl, inr, ⊎_elim, arith}
+use Rattle.std.proofs.Common.{◌≡◌, ℕ, zero, suc, ◌*◌, ◌/◌, ◌%◌, ◌^◌, ◌<◌, ◌⊎◌, List, map, get_or, sym, refl, ap, ◌∙◌, subst, ⊎_elim, arith}
 use lib.Bits.{bit_xor, bit_and, and_mask, xor_shr, xor_mod, xor_comm, xor_assoc, xor_self, xor_zero_l, xor_zero_r, xor_shifted, shifted_half, shifted_even}
 use Rattle.std.specs.List.{range_with_len}
-use Rattle.std.proofs.lemmas.Nat.{shr_split, mod_below, pow_pos, xor_lt}
+use Rattle.std.proofs.lemmas.Nat.{shr_split, mod_below, xor_lt}
 use Rattle.std.proofs.lemmas.List.FromFn.{get_or-map-range_with_len}
 use Rattle.frames.specs.Crc.{shift_once, shift, crc_byte}
 

@@ -5,7 +5,7 @@ use Rattle.frames.specs.declared.finding.Cause.TheVariants.{Length}
 use Rattle.frames.specs.declared.reader.Reader.{Reader}
 use Rattle.frames.specs.declared.reader.Stage.{Stage}
 use Rattle.frames.specs.declared.reader.Stage.TheVariants.{Hunting, Start, Body}
-use Rattle.frames.specs.Finding.{Found, dropped, Sized, verdict, misfit, whole, part, Finds, Waits}
+use Rattle.frames.specs.Finding.{Found, dropped, Sized, verdict, misfit, whole, part, Waits}
 use Rattle.frames.specs.Reading.{begun, holds, Reads}
 use Rattle.frames.proofs.Holding.{waits_held, waits_at}
 use Rattle.frames.proofs.Joining.{reads_on}

@@ -1,8 +1,7 @@
 -- What is held after a hunt through a stretch: the start of a candidate, a lone 0xFF, or nothing.
-use Rattle.std.proofs.Common.{◌≡◌, ℕ, zero, suc, ◌+◌, ◌-◌, ◌<◌, ◌≤◌, ◌⊎◌, List, [], ◌∷◌, ◌++◌, length, get_or, take, sym, refl, ap, ◌∙◌, subst, inl, inr, append_assoc, append-nil, add-one, arith}
+use Rattle.std.proofs.Common.{◌≡◌, ℕ, zero, suc, ◌+◌, ◌<◌, List, [], ◌∷◌, ◌++◌, length, get_or, take, sym, refl, ap, ◌∙◌, subst, append_assoc, append-nil, add-one, arith}
 use Rattle.std.proofs.lemmas.List.{take_more, take_all}
-use Rattle.frames.specs.Finding.{Quiet, Begun, none, sync, start, Waits}
-use Rattle.frames.proofs.Quietness.{quiet_front}
+use Rattle.frames.specs.Finding.{Quiet, none, sync, start, Waits}
 
 -- no 0xFF among the first n bytes is directly followed by 0x02
 abbrev pub Unmarked : List ℕ → ℕ → Type 0

@@ -2,8 +2,8 @@
 use Rattle.std.proofs.Common.{◌≡◌, ℕ, ◌+◌, ◌≤◌, List, [], ◌∷◌, ◌++◌, length, take, drop, Some, None, Option, sym, refl, ap, ◌∙◌, subst, append_assoc, append-nil, arith, length-append, length-drop, take-append-drop, take-add}
 use Rattle.std.proofs.lemmas.List.{length-take-le}
 use Rattle.frames.specs.Reading.{Reads}
-use Rattle.frames.specs.Finding.{Found, Quiet, Candidate, Finds, Begun, none, sync, start, part, Waits}
-use Rattle.frames.proofs.Quietness.{quiet_front, quiet_joins, quiet_settled, quiet_sync}
+use Rattle.frames.specs.Finding.{Found, Quiet, Finds, none, sync, start, part, Waits}
+use Rattle.frames.proofs.Quietness.{quiet_joins, quiet_settled, quiet_sync}
 
 append_nil_left : (xs ys : List ℕ) → xs ++ ys ≡ [] → xs ≡ []
 append_nil_left [] ys e = refl

@@ -1,5 +1,5 @@
 -- Noise: where two quiet stretches meet, and that a quiet stretch holds no start of a candidate.
-use Rattle.std.proofs.Common.{◌≡◌, ℕ, List, [], ◌∷◌, ◌++◌, sym, refl, ap, ◌∙◌, subst, arith}
+use Rattle.std.proofs.Common.{◌≡◌, ℕ, List, [], ◌∷◌, ◌++◌, refl, arith}
 use Rattle.frames.specs.Finding.{Quiet}
 
 pub quiet_front : (xs ys : List ℕ) → Quiet (xs ++ ys) → Quiet xs

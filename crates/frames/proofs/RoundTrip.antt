@@ -1,13 +1,13 @@
 -- A written frame is found as that frame, and a frame that is found stands as it is written.
-use Rattle.std.proofs.Common.{◌≡◌, ℕ, suc, ◌+◌, ◌-◌, ◌*◌, ◌/◌, ◌%◌, ◌<◌, ◌≤◌, true, false, ◌⊎◌, List, [], ◌∷◌, ◌++◌, length, get_or, take, drop, Some, None, Option, sym, refl, ap, ◌∙◌, subst, inl, inr, ⊎_elim, append_assoc, append-nil, zero-add, arith, length-append, length-drop, take-append-drop}
-use Rattle.std.proofs.lemmas.List.{take_at, get_or_at, get_or-append_right, get_or-take, length-take-le, drop_more, drop_all, nil_from_length}
+use Rattle.std.proofs.Common.{◌≡◌, ℕ, ◌+◌, ◌-◌, ◌*◌, ◌/◌, ◌%◌, ◌<◌, ◌≤◌, List, [], ◌∷◌, ◌++◌, length, get_or, take, drop, Some, None, Option, sym, refl, ap, ◌∙◌, subst, ⊎_elim, append_assoc, append-nil, zero-add, arith, length-append, take-append-drop}
+use Rattle.std.proofs.lemmas.List.{take_at, get_or-append_right, get_or-take, length-take-le, drop_more, drop_all, nil_from_length}
 use Rattle.std.proofs.lemmas.Bool.{cases_eq}
 use Rattle.frames.specs.declared.finding.Cause.{Cause}
 use Rattle.frames.specs.Crc.{crc_of}
-use Rattle.frames.specs.Frame.{covered, stored, frame_bytes}
+use Rattle.frames.specs.Frame.{covered, frame_bytes}
 use Rattle.frames.specs.Finding.{Found, frame, dropped, Sized, Candidate, misfit, whole, verdict, stored_in, Finds, Waits}
 use Rattle.frames.specs.Reading.{Reads}
-use Rattle.frames.specs.Promises.{FindsExactly, FindsWritten, StandsAsWritten}
+use Rattle.frames.specs.Promises.{FindsExactly, StandsAsWritten}
 use Rattle.frames.proofs.ByteLists.{Bytes, bytes_back}
 use Rattle.frames.proofs.Joining.{finds_on}
 use Rattle.frames.proofs.Verdicts.{verdict_end, verdict_check, verdict_right}

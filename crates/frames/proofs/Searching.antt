@@ -1,5 +1,5 @@
 -- The search of the sample cases finds what the finding rule finds.
-use Rattle.std.proofs.Common.{◌≡◌, ℕ, ◌+◌, ◌<◌, ◌≤◌, Bool, true, false, cond, eqb, leb, ◌⊎◌, List, [], ◌∷◌, ◌++◌, length, take, drop, Some, None, Option, unwrap_or, sym, refl, ap, ◌∙◌, subst, inl, inr, ⊎_elim, add-zero, zero-add, arith, length-append, take-append-drop, eq-eqb, ne_eqb, le-leb}
+use Rattle.std.proofs.Common.{◌≡◌, ℕ, ◌+◌, ◌<◌, ◌≤◌, Bool, true, false, eqb, leb, ◌⊎◌, List, [], ◌∷◌, ◌++◌, length, take, drop, Some, None, unwrap_or, sym, refl, ap, ◌∙◌, subst, inl, inr, ⊎_elim, add-zero, zero-add, arith, take-append-drop, ne_eqb, le-leb}
 use borrow.Author.Tests.{lt-leb}
 use Rattle.std.proofs.lemmas.List.{length-take-le}
 use Rattle.std.proofs.lemmas.Bool.{cases_eq, cases_lt, cond-true, cond-false}
@@ -7,7 +7,7 @@ use Rattle.frames.specs.declared.finding.Cause.TheVariants.{Length}
 use Rattle.frames.specs.Finding.{Found, dropped, Sized, verdict, Quiet, misfit, whole, Finds}
 use Rattle.frames.specs.Promises.{SearchIsTheRule}
 use Rattle.frames.specs.Samples.{both, judge_at, search_from}
-use Rattle.frames.proofs.Uniqueness.{Judged, unfit, full, Opened, opened}
+use Rattle.frames.proofs.Uniqueness.{Judged, unfit, full, opened}
 
 both_false : (x : Bool) → both x false ≡ false
 both_false true = refl

@@ -1,8 +1,8 @@
 -- The finding rule finds one thing: no list of bytes has two findings, or a finding and none yet.
-use Rattle.std.proofs.Common.{◌≡◌, ℕ, ◌+◌, ◌<◌, ◌≤◌, List, [], ◌∷◌, ◌++◌, length, take, sym, refl, ap, ◌∙◌, subst, append_assoc, append-nil, arith, length-append}
+use Rattle.std.proofs.Common.{◌≡◌, ℕ, ◌+◌, ◌≤◌, List, [], ◌∷◌, ◌++◌, length, take, sym, refl, ap, ◌∙◌, subst, append_assoc, append-nil, arith, length-append}
 use Rattle.std.proofs.lemmas.List.{take_at}
 use Rattle.frames.specs.declared.finding.Cause.TheVariants.{Length}
-use Rattle.frames.specs.Finding.{Found, dropped, Sized, Quiet, Candidate, misfit, whole, verdict, Finds, Begun, none, sync, start, part, Waits}
+use Rattle.frames.specs.Finding.{Found, dropped, Sized, Quiet, misfit, whole, verdict, Finds, Begun, none, sync, start, part, Waits}
 use Rattle.frames.proofs.Quietness.{quiet_front, quiet_sync, quiet_none, first_mark}
 
 -- what a LENGTH and the bytes behind it come to, and how many bytes the candidate has

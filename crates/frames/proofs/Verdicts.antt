@@ -1,9 +1,9 @@
 -- What a whole candidate comes to, by its last byte and its check value.
-use Rattle.std.proofs.Common.{◌≡◌, ℕ, ◌+◌, ◌-◌, List, ◌∷◌, get_or, take, drop, ap, ◌∙◌, eq-eqb, ne_eqb}
+use Rattle.std.proofs.Common.{◌≡◌, ℕ, ◌+◌, ◌-◌, List, ◌∷◌, get_or, take, drop, ◌∙◌, eq-eqb, ne_eqb}
 use Rattle.std.proofs.lemmas.Bool.{cond-true, cond-false}
 use Rattle.frames.specs.declared.finding.Cause.TheVariants.{Check, End}
 use Rattle.frames.specs.Crc.{crc_of}
-use Rattle.frames.specs.Finding.{Found, frame, dropped, stored_in, verdict}
+use Rattle.frames.specs.Finding.{frame, dropped, stored_in, verdict}
 
 pub verdict_end : (n : ℕ) (body : List ℕ) → (get_or body (n - 1) 0 ≡ 0x03 → ⊥) → verdict n body ≡ dropped End (n + 3)
 verdict_end n body wrong = cond-false _ _ _ (ne_eqb _ _ wrong)

@@ -1,12 +1,11 @@
 -- What a reader promises, by the bytes that it holds and those that it is handed.
-use Rattle.std.specs.Prelude.{◌≡◌, ℕ, ◌+◌, ◌<◌, ◌≤◌, Bool, true, false, List, [], ◌∷◌, ◌++◌, length, take, drop, Some, None, Option}
+use Rattle.std.specs.Prelude.{◌≡◌, ℕ, ◌+◌, ◌≤◌, Bool, true, false, List, [], ◌∷◌, ◌++◌, length, take, Some, None, Option}
 use Rattle.frames.specs.declared.finding.Finding.{Finding}
 use Rattle.frames.specs.declared.finding.Finding.TheVariants.{Frame, Dropped, Nothing}
 use Rattle.frames.specs.declared.frame.Frame as rust
 use Rattle.frames.specs.declared.reader.Reader.{Reader}
 use Rattle.frames.specs.declared.reader.Stage.{Stage}
 use Rattle.frames.specs.declared.reader.Stage.TheVariants.{Hunting, Sync, Start, Body}
-use Rattle.frames.specs.Frame.{frame_bytes}
 use Rattle.frames.specs.Finding.{Found, frame, dropped, Sized, Finds, Waits}
 
 -- the DATA bytes of a frame

@@ -1,7 +1,6 @@
 -- A record with the number ends the search at its place; any other record is passed over.
-use Rattle.std.proofs.Common.{◌≡◌, ℕ, ◌+◌, ◌<◌, eqb, ◌⊎◌, length, get_or, drop, sym, ap, ◌∙◌, arith, below_more}
-use Rattle.std.proofs.lemmas.List.{get_or_read, at_drop_more, at_drop_all}
-use Rattle.std.proofs.lemmas.Bool.{eq-eqb, ne_eqb}
+use Rattle.std.proofs.Common.{◌≡◌, get_or, sym, ap, ◌∙◌, arith, below_more}
+use Rattle.std.proofs.lemmas.List.{get_or_read, at_drop_all}
 use Rattle.frames.specs.Numbered.{place_from}
 use Rattle.frames.proofs.Passing.{stops_at, passes_on}
 use Rattle.frames.proofs.numbered.find.Goals as goal

@@ -8,7 +8,7 @@ returns c =
     let memory = c.args.memory.now in
     let body = c.args.data.now in
     let room = c.if-memory-count.false in
-    let full = filled memory body c.args.cmd room c.copy-from-slice.new.self c.copy-from-slice.ensures.after in
+    let full = filled memory body c.args.cmd room c.copy_from_slice.new.self c.copy_from_slice.ensures.after in
     record {
       refused = search rules;
       written = closed memory body c.args.cmd room _ c.crc-value.result full (c.crc-value.ensures ∙ ap crc_of (over memory body c.args.cmd room _ full));

@@ -5,16 +5,16 @@ use Rattle.frames.proofs.Holding.{still, waits_at, opened_at}
 use Rattle.frames.proofs.Hunting.{sync_then_stx, sync_then_other}
 use Rattle.frames.proofs.reader.Reader.hunt.Goals as goal
 
-pub returns-then-is-empty : goal.returns-then-is-empty
-returns-then-is-empty c = record {
+pub returns-then-is_empty : goal.returns-then-is_empty
+returns-then-is_empty c = record {
   within = omega arith;
   waits = still c.args.self.now;
-  opened = λ h. absurd (omega (arith, true-eqb _ 0 c.if-is-empty.ensures));
+  opened = λ h. absurd (omega (arith, true-eqb _ 0 c.if-is_empty.ensures));
 }
 
 pub returns-then-stretch-eq-STX : goal.returns-then-stretch-eq-STX
 returns-then-stretch-eq-STX c =
-    let some : 0 < length c.args.stretch.now = omega (arith, false-eqb _ 0 c.if-is-empty.ensures) in
+    let some : 0 < length c.args.stretch.now = omega (arith, false-eqb _ 0 c.if-is_empty.ensures) in
     record {
       within = omega arith;
       waits = waits_at c.args.self.now Sync _ _ c.in-Sync.is (sync_then_stx c.args.stretch.now some c.if-stretch-eq-STX.true);
@@ -23,7 +23,7 @@ returns-then-stretch-eq-STX c =
 
 pub returns-else-stretch-eq-STX : goal.returns-else-stretch-eq-STX
 returns-else-stretch-eq-STX c =
-    let some : 0 < length c.args.stretch.now = omega (arith, false-eqb _ 0 c.if-is-empty.ensures) in
+    let some : 0 < length c.args.stretch.now = omega (arith, false-eqb _ 0 c.if-is_empty.ensures) in
     let told = c.search-in-Sync.ensures in
     record {
       within = told.within;

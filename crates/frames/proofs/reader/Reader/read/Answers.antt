@@ -27,7 +27,7 @@ returns c =
       some = uses_some held stretch after r used (begun_held c.args.self.now) reads;
       exactly = exact;
       written = λ before cmd body rest. finds_written cmd body held stretch before rest r used exact;
-      stands = stands_as_written held stretch after r used (bytes_append held (take used stretch) (bytes_held c.args.self.now) (bytes_take used stretch (λ i. omega (arith, c.type-inv.stretch i)))) reads;
+      stands = stands_as_written held stretch after r used (bytes_append held (take used stretch) (bytes_held c.args.self.now) (bytes_take used stretch (λ i. omega (arith, c.type_inv.stretch i)))) reads;
       cut = cut_anywhere held stretch after r used reads;
       once = one_reading;
     }
