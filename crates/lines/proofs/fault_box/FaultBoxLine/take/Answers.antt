@@ -14,7 +14,7 @@ loop-byte-smaller g c = omega (arith, ap length c.in-Some.ensures.taken.waiting_
 pub loop-byte-preserved : goal.loop-byte-preserved
 loop-byte-preserved g c = (
   c.loop-byte.invariant.0 ++ c.in-Some.byte ∷ [],
-  drawn_more c.loop-byte.invariant.1 c.in-Some.ensures.taken c.next-self.ensures.follows refl c.in-default-spoil.ensures.out,
+  drawn_more c.loop-byte.invariant.1 c.in-Some.ensures.taken c.next-self.ensures.follows refl c.in_default-spoil.ensures.out,
   c.in-Some.ensures.fixed ∙ c.loop-byte.invariant.2,
 )
 
@@ -22,11 +22,11 @@ pub returns : goal.returns
 returns g c =
     let after : FaultBox g.row.L.Denot = record { below = c.take.new.self; script = c.loop-byte.self.script; position = c.loop-byte.self.position } in
     let through : TakenThrough (boxed g.L.Line.meaning c.args.self.now) None (boxed g.L.Line.meaning after) =
-    drawn_all {after = boxed g.L.Line.meaning after} c.loop-byte.invariant.1 c.in-default.ensures.taken refl refl
+    drawn_all {after = boxed g.L.Line.meaning after} c.loop-byte.invariant.1 c.in_default.ensures.taken refl refl
     in
     record {
       taken = taken_from_through (boxed g.L.Line.meaning c.args.self.now) (boxed g.L.Line.meaning after) None through;
-      fixed = fixed_kept {below' = g.L.Line.fixed c.take.new.self} through.passed.script_kept (c.in-default.ensures.fixed ∙ c.loop-byte.invariant.2);
+      fixed = fixed_kept {below' = g.L.Line.fixed c.take.new.self} through.passed.script_kept (c.in_default.ensures.fixed ∙ c.loop-byte.invariant.2);
       through = through;
     }
 

@@ -2,7 +2,7 @@
 use Rattle.std.proofs.Common.{◌-◌, ◌<◌, length, inl, inr, arith, length-set}
 use Rattle.lines.proofs.RingBytes.{byte_added}
 use Rattle.lines.proofs.ring.Ring.push.Goals as goal
-use Rattle.lines.proofs.ring.Ring.push.Goals.{then-len-to-end, else-len-to-end}
+use Rattle.lines.proofs.ring.Ring.push.Goals.{then-len-to_end, else-len-to_end}
 
 pub returns : goal.returns
 returns c =
@@ -13,10 +13,10 @@ returns c =
       pushed =
           byte_added
           ring.memory.now ring.head ring.len c.start-start.result c.len-len.result
-          c.len-len.ensures.counted c.start-start.ensures.same inside c.if-len-to-end.slot c.args.byte room
-          (elim c.if-len-to-end.branch [
-            | then-len-to-end w ↦ inl (w.slot-is, omega (arith, w.if-len-to-end.true))
-            | else-len-to-end w ↦ inr (omega (arith, w.slot-is, w.if-len-to-end.false))
+          c.len-len.ensures.counted c.start-start.ensures.same inside c.if-len-to_end.slot c.args.byte room
+          (elim c.if-len-to_end.branch [
+            | then-len-to_end w ↦ inl (w.slot-is, omega (arith, w.if-len-to_end.true))
+            | else-len-to_end w ↦ inr (omega (arith, w.slot-is, w.if-len-to_end.false))
           ]);
       sized = simp length-set;
     }

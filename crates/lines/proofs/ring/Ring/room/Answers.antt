@@ -3,8 +3,8 @@ use Rattle.std.proofs.Common.{length, arith}
 use Rattle.lines.proofs.RingBytes.{length_ring_bytes}
 use Rattle.lines.proofs.ring.Ring.room.Goals as goal
 
-pub overflow-sub-result : goal.overflow-sub-result
-overflow-sub-result c =
+pub overflow_sub-result : goal.overflow_sub-result
+overflow_sub-result c =
     let ring = c.args.self.now in
     omega (arith, c.len.ensures.counted, length_ring_bytes ring.memory.now ring.head ring.len)
 

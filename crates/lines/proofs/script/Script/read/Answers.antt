@@ -8,10 +8,10 @@ pub returns : goal.returns
 returns c =
     let entries = c.args.entries.now in
     let few : length entries ≤ 16 = omega arith in
-    let copied : c.copy-from-slice.new.self ≡ entries = c.copy-from-slice.ensures.after in
+    let copied : c.copy_from_slice.new.self ≡ entries = c.copy_from_slice.ensures.after in
     record {
       read = (
         ap (λ t. cond t (rising 0 entries) false) (le-leb (length entries) 16 few) ∙ sym c.if-not-rises.ensures.told,
-        take_at c.copy-from-slice.new.self _ (length entries) (ap length copied) ∙ copied,
+        take_at c.copy_from_slice.new.self _ (length entries) (ap length copied) ∙ copied,
       );
     }

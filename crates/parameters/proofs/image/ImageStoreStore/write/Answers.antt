@@ -11,22 +11,22 @@ pub put-requires : goal.put-requires
 put-requires c =
     let image = c.args.self.now.image.now in
     let value = c.args.value.now in
-    let s = c.start-of-start.result in
+    let s = c.start_of-start.result in
     let k = s + c.width.result - s in
     let wide : k ≡ c.width.result = omega arith in
     let room : length (take k (drop s image)) ≡ k = search (rules, places) in
     let short : length value ≤ k = value_is_short image (table_held c.args.self.now.table) (table_held c.write.new.self) c.args.number c.in-Some.row value
-    s k (value ++ replicate (k - length value) 0) c.in-Some.ensures.row (sym c.in-ok-write.ensures.taken)
-    c.in-ok-write.ensures.held c.start-of-start.ensures.start (wide ∙ c.width.ensures.width) refl in
+    s k (value ++ replicate (k - length value) 0) c.in-Some.ensures.row (sym c.in_ok-write.ensures.taken)
+    c.in_ok-write.ensures.held c.start_of-start.ensures.start (wide ∙ c.width.ensures.width) refl in
     omega (arith, short, room)
 
-pub returns-in-err-write : goal.returns-in-err-write
-returns-in-err-write c =
+pub returns-in_err-write : goal.returns-in_err-write
+returns-in_err-write c =
     let before = table_held c.args.self.now.table in
-    let unlawful = sym c.in-err-write.ensures.taken in
-    let held = c.in-err-write.ensures.held in
+    let unlawful = sym c.in_err-write.ensures.taken in
+    let held = c.in_err-write.ensures.held in
     record {
-      taken = not_ok c.from-residual.result c.from-residual.ensures.0 ∙ sym unlawful;
+      taken = not_ok c.from_residual.result c.from_residual.ensures.0 ∙ sym unlawful;
       held = held;
       over = λ handed in_step. record {
         opens = in_step.opens;
@@ -38,19 +38,19 @@ pub returns-then-end-self : goal.returns-then-end-self
 returns-then-end-self c =
     let image = c.args.self.now.image.now in
     let value = c.args.value.now in
-    let s = c.start-of-start.result in
+    let s = c.start_of-start.result in
     let k = s + c.width.result - s in
     let wide : k ≡ c.width.result = omega arith in
     let room : length (take k (drop s image)) ≡ k = search (rules, places) in
-    let taken = c.in-ok-write.ensures.taken in
-    let held = c.in-ok-write.ensures.held in
+    let taken = c.in_ok-write.ensures.taken in
+    let held = c.in_ok-write.ensures.held in
     record {
       taken = taken;
       held = held;
       over = λ handed in_step.
           stays_open image (table_held c.args.self.now.table) (table_held c.write.new.self) c.args.number c.in-Some.row value
           s k c.put.new.field c.in-Some.ensures.row (sym taken) held
-          c.start-of-start.ensures.start (wide ∙ c.width.ensures.width)
+          c.start_of-start.ensures.start (wide ∙ c.width.ensures.width)
           (c.put.ensures.put ∙ ap (λ n. value ++ replicate (n - length value) 0) room) in_step;
     }
 
@@ -58,16 +58,16 @@ pub returns-else-end-self : goal.returns-else-end-self
 returns-else-end-self c =
     let image = c.args.self.now.image.now in
     let value = c.args.value.now in
-    let s = c.start-of-start.result in
+    let s = c.start_of-start.result in
     let k = c.width.result in
-    let taken = c.in-ok-write.ensures.taken in
-    let held = c.in-ok-write.ensures.held in
+    let taken = c.in_ok-write.ensures.taken in
+    let held = c.in_ok-write.ensures.held in
     record {
       taken = taken;
       held = held;
       over = λ handed in_step.
           let within : s + k ≤ length image = lies_within image (table_held c.args.self.now.table) (table_held c.write.new.self)
           c.args.number c.in-Some.row value s k (value ++ replicate (k - length value) 0) c.in-Some.ensures.row (sym taken) held
-          c.start-of-start.ensures.start c.width.ensures.width refl in_step in
+          c.start_of-start.ensures.start c.width.ensures.width refl in_step in
           absurd (omega (arith, within, c.if-end-self.false));
     }

@@ -24,8 +24,8 @@ refused most bytes before less =
     let no = short most bytes less in
     (sym no, sym (cond-false (sound_field (RouteUpto most) bytes) (take (used (RouteUpto most) bytes) bytes) before no))
 
-pub returns-in-default : goal.returns-in-default
-returns-in-default g c =
+pub returns-in_default : goal.returns-in_default
+returns-in_default g c =
     let r = refused g.row.MOST c.args.field.now (route_form (stops c.args.self.now)) (search rules) in
     record { taken = r.0; form = r.1 }
 

@@ -15,64 +15,64 @@ use Rattle.parameters.proofs.table.TableStore.read.Goals as goal
 abbrev Read : List ℕ → TableStore → Type 0
 Read image table = (p : Parameter) → table_held table p ≡ value_in image p
 
-pub returns-in-err-write : goal.returns-in-err-write
-returns-in-err-write c =
+pub returns-in_err-write : goal.returns-in_err-write
+returns-in_err-write c =
     let image = c.args.image.now in
-    let t = refused_at image OwnPollingGroup c.from-residual.result (Read image) c.from-residual.ensures.0 (sym (any_field (drop 0 image)) ∙ sym c.in-err-write.ensures.taken) in
+    let t = refused_at image OwnPollingGroup c.from_residual.result (Read image) c.from_residual.ensures.0 (sym (any_field (drop 0 image)) ∙ sym c.in_err-write.ensures.taken) in
     record { sound = t.0; held = t.1 }
 
-pub returns-in-err-write-2 : goal.returns-in-err-write-2
-returns-in-err-write-2 c =
+pub returns-in_err-write-2 : goal.returns-in_err-write-2
+returns-in_err-write-2 c =
     let image = c.args.image.now in
-    let t = refused_at image RadioAcknowledge c.from-residual-in-err-write-2.result (Read image) c.from-residual-in-err-write-2.ensures.0 (sym (upto_field 1 (drop 1 image)) ∙ sym c.in-err-write-2.ensures.taken) in
+    let t = refused_at image RadioAcknowledge c.from_residual-in_err-write-2.result (Read image) c.from_residual-in_err-write-2.ensures.0 (sym (upto_field 1 (drop 1 image)) ∙ sym c.in_err-write-2.ensures.taken) in
     record { sound = t.0; held = t.1 }
 
-pub returns-in-err-write-3 : goal.returns-in-err-write-3
-returns-in-err-write-3 c =
+pub returns-in_err-write-3 : goal.returns-in_err-write-3
+returns-in_err-write-3 c =
     let image = c.args.image.now in
-    let t = refused_at image RelayRouteStatus c.from-residual-in-err-write-3.result (Read image) c.from-residual-in-err-write-3.ensures.0 (sym (upto_field 1 (drop 2 image)) ∙ sym c.in-err-write-3.ensures.taken) in
+    let t = refused_at image RelayRouteStatus c.from_residual-in_err-write-3.result (Read image) c.from_residual-in_err-write-3.ensures.0 (sym (upto_field 1 (drop 2 image)) ∙ sym c.in_err-write-3.ensures.taken) in
     record { sound = t.0; held = t.1 }
 
-pub returns-in-err-load : goal.returns-in-err-load
-returns-in-err-load c =
+pub returns-in_err-load : goal.returns-in_err-load
+returns-in_err-load c =
     let image = c.args.image.now in
-    let t = refused_at image RelayRoute c.from-residual-in-err-load.result (Read image) c.from-residual-in-err-load.ensures.0 (sym c.in-err-load.ensures.taken) in
+    let t = refused_at image RelayRoute c.from_residual-in_err-load.result (Read image) c.from_residual-in_err-load.ensures.0 (sym c.in_err-load.ensures.taken) in
     record { sound = t.0; held = t.1 }
 
-pub returns-in-err-load-2 : goal.returns-in-err-load-2
-returns-in-err-load-2 c =
+pub returns-in_err-load-2 : goal.returns-in_err-load-2
+returns-in_err-load-2 c =
     let image = c.args.image.now in
-    let t = refused_at image PollingRoute c.from-residual-in-err-load-2.result (Read image) c.from-residual-in-err-load-2.ensures.0 (sym c.in-err-load-2.ensures.taken) in
+    let t = refused_at image PollingRoute c.from_residual-in_err-load-2.result (Read image) c.from_residual-in_err-load-2.ensures.0 (sym c.in_err-load-2.ensures.taken) in
     record { sound = t.0; held = t.1 }
 
-pub returns-in-err-write-4 : goal.returns-in-err-write-4
-returns-in-err-write-4 c =
+pub returns-in_err-write-4 : goal.returns-in_err-write-4
+returns-in_err-write-4 c =
     let image = c.args.image.now in
-    let t = refused_at image GroupNumber c.from-residual-in-err-write-4.result (Read image) c.from-residual-in-err-write-4.ensures.0 (sym (any_field (drop 263 image)) ∙ sym c.in-err-write-4.ensures.taken) in
+    let t = refused_at image GroupNumber c.from_residual-in_err-write-4.result (Read image) c.from_residual-in_err-write-4.ensures.0 (sym (any_field (drop 263 image)) ∙ sym c.in_err-write-4.ensures.taken) in
     record { sound = t.0; held = t.1 }
 
-pub returns-in-err-write-5 : goal.returns-in-err-write-5
-returns-in-err-write-5 c =
+pub returns-in_err-write-5 : goal.returns-in_err-write-5
+returns-in_err-write-5 c =
     let image = c.args.image.now in
-    let t = refused_at image PollingTime c.from-residual-in-err-write-5.result (Read image) c.from-residual-in-err-write-5.ensures.0 (sym (any_field (drop 264 image)) ∙ sym c.in-err-write-5.ensures.taken) in
+    let t = refused_at image PollingTime c.from_residual-in_err-write-5.result (Read image) c.from_residual-in_err-write-5.ensures.0 (sym (any_field (drop 264 image)) ∙ sym c.in_err-write-5.ensures.taken) in
     record { sound = t.0; held = t.1 }
 
-pub returns-in-err-write-6 : goal.returns-in-err-write-6
-returns-in-err-write-6 c =
+pub returns-in_err-write-6 : goal.returns-in_err-write-6
+returns-in_err-write-6 c =
     let image = c.args.image.now in
-    let t = refused_at image UserTimeOut c.from-residual-in-err-write-6.result (Read image) c.from-residual-in-err-write-6.ensures.0 (sym (any_field (drop 265 image)) ∙ sym c.in-err-write-6.ensures.taken) in
+    let t = refused_at image UserTimeOut c.from_residual-in_err-write-6.result (Read image) c.from_residual-in_err-write-6.ensures.0 (sym (any_field (drop 265 image)) ∙ sym c.in_err-write-6.ensures.taken) in
     record { sound = t.0; held = t.1 }
 
-pub returns-in-err-write-7 : goal.returns-in-err-write-7
-returns-in-err-write-7 c =
+pub returns-in_err-write-7 : goal.returns-in_err-write-7
+returns-in_err-write-7 c =
     let image = c.args.image.now in
-    let t = refused_at image ExchangeStatus c.from-residual-in-err-write-7.result (Read image) c.from-residual-in-err-write-7.ensures.0 (sym (upto_field 3 (drop 266 image)) ∙ sym c.in-err-write-7.ensures.taken) in
+    let t = refused_at image ExchangeStatus c.from_residual-in_err-write-7.result (Read image) c.from_residual-in_err-write-7.ensures.0 (sym (upto_field 3 (drop 266 image)) ∙ sym c.in_err-write-7.ensures.taken) in
     record { sound = t.0; held = t.1 }
 
-pub returns-in-err-write-8 : goal.returns-in-err-write-8
-returns-in-err-write-8 c =
+pub returns-in_err-write-8 : goal.returns-in_err-write-8
+returns-in_err-write-8 c =
     let image = c.args.image.now in
-    let t = refused_at image SwitchMode c.from-residual-in-err-write-8.result (Read image) c.from-residual-in-err-write-8.ensures.0 (sym (upto_field 1 (drop 267 image)) ∙ sym c.in-err-write-8.ensures.taken) in
+    let t = refused_at image SwitchMode c.from_residual-in_err-write-8.result (Read image) c.from_residual-in_err-write-8.ensures.0 (sym (upto_field 1 (drop 267 image)) ∙ sym c.in_err-write-8.ensures.taken) in
     record { sound = t.0; held = t.1 }
 
 pub returns : goal.returns
@@ -91,27 +91,27 @@ returns c =
       switch_mode = c.write-8.new.self;
     } in
     let each = each_parameter (λ p. sound_field (row_for p).lawful (field_in image p) ≡ true)
-    (sym (any_field (drop 0 image)) ∙ sym c.in-ok-write.ensures.taken)
-    (sym (upto_field 1 (drop 1 image)) ∙ sym c.in-ok-write-2.ensures.taken)
-    (sym (upto_field 1 (drop 2 image)) ∙ sym c.in-ok-write-3.ensures.taken)
-    (sym c.in-ok-load.ensures.taken)
-    (sym c.in-ok-load-2.ensures.taken)
-    (sym (any_field (drop 263 image)) ∙ sym c.in-ok-write-4.ensures.taken)
-    (sym (any_field (drop 264 image)) ∙ sym c.in-ok-write-5.ensures.taken)
-    (sym (any_field (drop 265 image)) ∙ sym c.in-ok-write-6.ensures.taken)
-    (sym (upto_field 3 (drop 266 image)) ∙ sym c.in-ok-write-7.ensures.taken)
-    (sym (upto_field 1 (drop 267 image)) ∙ sym c.in-ok-write-8.ensures.taken) in
+    (sym (any_field (drop 0 image)) ∙ sym c.in_ok-write.ensures.taken)
+    (sym (upto_field 1 (drop 1 image)) ∙ sym c.in_ok-write-2.ensures.taken)
+    (sym (upto_field 1 (drop 2 image)) ∙ sym c.in_ok-write-3.ensures.taken)
+    (sym c.in_ok-load.ensures.taken)
+    (sym c.in_ok-load-2.ensures.taken)
+    (sym (any_field (drop 263 image)) ∙ sym c.in_ok-write-4.ensures.taken)
+    (sym (any_field (drop 264 image)) ∙ sym c.in_ok-write-5.ensures.taken)
+    (sym (any_field (drop 265 image)) ∙ sym c.in_ok-write-6.ensures.taken)
+    (sym (upto_field 3 (drop 266 image)) ∙ sym c.in_ok-write-7.ensures.taken)
+    (sym (upto_field 1 (drop 267 image)) ∙ sym c.in_ok-write-8.ensures.taken) in
     record {
       sound = sym (all_sound image each parameters);
       held = each_parameter (λ p. table_held table p ≡ value_in image p)
-          (c.in-ok-write.ensures.form ∙ cond-true _ _ _ (sym c.in-ok-write.ensures.taken) ∙ one_of_one (drop 0 image))
-          (c.in-ok-write-2.ensures.form ∙ cond-true _ _ _ (sym c.in-ok-write-2.ensures.taken) ∙ one_of_one (drop 1 image))
-          (c.in-ok-write-3.ensures.form ∙ cond-true _ _ _ (sym c.in-ok-write-3.ensures.taken) ∙ one_of_one (drop 2 image))
-          (c.in-ok-load.ensures.form ∙ cond-true _ _ _ (sym c.in-ok-load.ensures.taken))
-          (c.in-ok-load-2.ensures.form ∙ cond-true _ _ _ (sym c.in-ok-load-2.ensures.taken))
-          (c.in-ok-write-4.ensures.form ∙ cond-true _ _ _ (sym c.in-ok-write-4.ensures.taken) ∙ one_of_one (drop 263 image))
-          (c.in-ok-write-5.ensures.form ∙ cond-true _ _ _ (sym c.in-ok-write-5.ensures.taken) ∙ one_of_one (drop 264 image))
-          (c.in-ok-write-6.ensures.form ∙ cond-true _ _ _ (sym c.in-ok-write-6.ensures.taken) ∙ one_of_one (drop 265 image))
-          (c.in-ok-write-7.ensures.form ∙ cond-true _ _ _ (sym c.in-ok-write-7.ensures.taken) ∙ one_of_one (drop 266 image))
-          (c.in-ok-write-8.ensures.form ∙ cond-true _ _ _ (sym c.in-ok-write-8.ensures.taken) ∙ one_of_one (drop 267 image));
+          (c.in_ok-write.ensures.form ∙ cond-true _ _ _ (sym c.in_ok-write.ensures.taken) ∙ one_of_one (drop 0 image))
+          (c.in_ok-write-2.ensures.form ∙ cond-true _ _ _ (sym c.in_ok-write-2.ensures.taken) ∙ one_of_one (drop 1 image))
+          (c.in_ok-write-3.ensures.form ∙ cond-true _ _ _ (sym c.in_ok-write-3.ensures.taken) ∙ one_of_one (drop 2 image))
+          (c.in_ok-load.ensures.form ∙ cond-true _ _ _ (sym c.in_ok-load.ensures.taken))
+          (c.in_ok-load-2.ensures.form ∙ cond-true _ _ _ (sym c.in_ok-load-2.ensures.taken))
+          (c.in_ok-write-4.ensures.form ∙ cond-true _ _ _ (sym c.in_ok-write-4.ensures.taken) ∙ one_of_one (drop 263 image))
+          (c.in_ok-write-5.ensures.form ∙ cond-true _ _ _ (sym c.in_ok-write-5.ensures.taken) ∙ one_of_one (drop 264 image))
+          (c.in_ok-write-6.ensures.form ∙ cond-true _ _ _ (sym c.in_ok-write-6.ensures.taken) ∙ one_of_one (drop 265 image))
+          (c.in_ok-write-7.ensures.form ∙ cond-true _ _ _ (sym c.in_ok-write-7.ensures.taken) ∙ one_of_one (drop 266 image))
+          (c.in_ok-write-8.ensures.form ∙ cond-true _ _ _ (sym c.in_ok-write-8.ensures.taken) ∙ one_of_one (drop 267 image));
     }

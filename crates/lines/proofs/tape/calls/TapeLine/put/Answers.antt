@@ -3,20 +3,20 @@ use Rattle.std.proofs.Common.{◌≡◌, ◌+◌, ◌-◌, ◌≤◌, ◌++◌, 
 use Rattle.std.proofs.lemmas.Slice.{take-put_mid}
 use Rattle.lines.proofs.tape.calls.TapeLine.put.Goals as goal
 
-pub invariant-of-self : goal.invariant-of-self
-invariant-of-self c =
+pub invariant_of-self : goal.invariant_of-self
+invariant_of-self c =
     let tape = c.args.self.now in
     let room : tape.len + length c.args.bytes.now ≤ 1024 =
     omega (arith, simp length-take at c.space.ensures.left, tape.whole, tape.within)
     in
-    let copied : length c.copy-from-slice.new.self ≡ length c.args.bytes.now = ap length c.copy-from-slice.ensures.after in
-    (simp (length-append, length-take, length-drop) (omega (arith, tape.whole, tape.within)), (room, tt))
+    let copied : length c.copy_from_slice.new.self ≡ length c.args.bytes.now = ap length c.copy_from_slice.ensures.after in
+    record { whole = simp (length-append, length-take, length-drop) (omega (arith, tape.whole, tape.within)); within = room }
 
 pub returns : goal.returns
 returns c =
     let tape = c.args.self.now in
     let bytes = c.args.bytes.now in
-    let copied : c.copy-from-slice.new.self ≡ bytes = c.copy-from-slice.ensures.after in
+    let copied : c.copy_from_slice.new.self ≡ bytes = c.copy_from_slice.ensures.after in
     record {
       put =
           record {
@@ -24,7 +24,7 @@ returns c =
                 record {
                   fits = omega (arith, c.space.ensures.left);
                   gained =
-                      take-put_mid tape.len ((tape.len + length bytes) - tape.len) tape.sent c.copy-from-slice.new.self (tape.len + length bytes)
+                      take-put_mid tape.len ((tape.len + length bytes) - tape.len) tape.sent c.copy_from_slice.new.self (tape.len + length bytes)
                       (ap (λ n. tape.len + n) (sym (ap length copied))) (omega (arith, tape.whole, tape.within))
                       ∙ ap (λ part. take tape.len tape.sent ++ part) copied;
                 };
