@@ -1,11 +1,10 @@
 -- A due attempt, by what putting its frame came to.
-use Rattle.std.proofs.Common.{◌≡◌, ℕ, ◌+◌, ◌≤◌, Bool, cond, List, length, sym, refl, ap, ◌∙◌, subst}
+use Rattle.std.proofs.Common.{◌≡◌, ℕ, ◌+◌, ◌≤◌, Bool, cond, List, length, sym, ap, ◌∙◌, subst}
 use Rattle.frames.specs.Reading.{frame_data}
 use Rattle.lines.specs.Meaning.{Meaning}
 use Rattle.station.specs.Inquiries.{written}
 use Rattle.station.specs.Stations.{has_space, put}
 use Rattle.station.specs.declared.sending.Sending.{Sending}
-use Rattle.station.specs.declared.progress.Progress.{Progress}
 use Rattle.station.specs.declared.progress.Progress.TheVariants.{Due, Acknowledging}
 use Rattle.station.specs.Putting.{Puts}
 use Rattle.station.specs.Sendings.{frame_told, due_frame, opened, counted, Attempted}

@@ -1,12 +1,12 @@
 -- Step 4 in the table: the attempt that is due is made, and no other.
-use Rattle.std.proofs.Common.{◌≡◌, ℕ, ◌<◌, true, List, map, length, get_or, set, Some, None, vec_items, Option, sym, refl, ap, ◌∙◌, subst, arith}
+use Rattle.std.proofs.Common.{◌≡◌, ℕ, ◌<◌, true, List, map, length, get_or, set, Some, None, vec_items, sym, refl, ap, ◌∙◌, arith}
 use Rattle.std.proofs.lemmas.List.{length-map}
 use Rattle.std.proofs.lemmas.Bool.{cond-true}
 use Rattle.lines.specs.Meaning.{Meaning}
 use Rattle.station.specs.Inquiries as rules
 use Rattle.station.specs.Inquiries.{own_frame, written, is_due}
 use Rattle.station.specs.Exchange.{attempted}
-use Rattle.station.specs.Stations.{has_space, put, due_frame, first}
+use Rattle.station.specs.Stations.{has_space, put, due_frame}
 use Rattle.station.specs.declared.inquiry.Inquiry.{Inquiry}
 use Rattle.station.specs.declared.places.Places.{Places}
 use Rattle.station.specs.Held.{inquiry_of, Tries}

@@ -4,8 +4,6 @@ use Rattle.std.proofs.lemmas.Bool.{cond_both, ltb-true, ltb-false, eqb-true, eqb
 use Rattle.frames.specs.Finding.{Found}
 use Rattle.station.specs.Inquiries.{answered, failed, Stage, waiting, due, acknowledging, answering, receiving, ended, Inquiry, waits_still, is_due}
 use Rattle.station.specs.Exchange.{after_attempt, hear, hear_all, tick, opened, counted}
-use Rattle.station.specs.Stations.{put, attempts}
-use Rattle.station.specs.Histories.{pulses, made}
 use Rattle.station.specs.Attempts.{Earned}
 use Rattle.station.proofs.Turns.{clash}
 use Rattle.station.proofs.Hearing.{Hears, same, acknowledged, refused, cut_off, goes_by_radio, gets_answer, gets_radio, hear_cases}

@@ -1,11 +1,11 @@
 -- The books of a history: every inquiry ever lodged with its copies, and the frames that were put.
-use Rattle.std.proofs.Common.{◌≡◌, ℕ, ◌+◌, ◌≤◌, false, List, [], ◌∷◌, ◌++◌, map, replicate, Some, None, Option, sym, refl, ap, ◌∙◌, append_assoc, append-nil}
+use Rattle.std.proofs.Common.{◌≡◌, ℕ, ◌≤◌, false, List, [], ◌∷◌, ◌++◌, map, replicate, Some, None, Option, sym, refl, ap, ◌∙◌, append_assoc, append-nil}
 use Rattle.std.specs.List.{AllByRecursion as All}
 use Rattle.std.proofs.lemmas.Bool.{cond_both, cond-false}
 use Rattle.lines.specs.Meaning.{Meaning}
 use Rattle.station.specs.Inquiries.{Outcome, Inquiry, Frame, written, own_frame, is_due}
-use Rattle.station.specs.Stations.{Slip, Station, has_space, first, put, due_frame, replies, attempts, up_to_step_three, Pulsed}
-use Rattle.station.specs.Histories.{pulses, History, made, ◌▸◌, Handed}
+use Rattle.station.specs.Stations.{Slip, Station, has_space, first, put, due_frame, replies, up_to_step_three, Pulsed}
+use Rattle.station.specs.Histories.{pulses, History, ◌▸◌, Handed}
 use Rattle.station.specs.Promises.{In, all_written, Puts, is_control, requests, lodgings, Tally, all_copies}
 use Rattle.station.proofs.Turns.{Over, Unbegun, tries, if_due}
 use Rattle.station.proofs.Pulses.{Queue}

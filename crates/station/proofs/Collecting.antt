@@ -1,7 +1,6 @@
 -- What a slip of this station, with memory enough, is told by the inquiry of its number.
-use Rattle.std.proofs.Common.{◌≡◌, ℕ, ◌≤◌, cond, eqb, ltb, List, Some, None, Ok, Err, Option, Result, refl, ap, ◌∙◌, subst, arith}
+use Rattle.std.proofs.Common.{◌≡◌, ℕ, ◌≤◌, cond, eqb, ltb, List, Some, None, Ok, Err, refl, ap, ◌∙◌, subst, arith}
 use Rattle.std.proofs.lemmas.Bool.{cond-true, cond-false, le-ltb, eq-eqb}
-use Rattle.station.specs.declared.refusal.Refusal.{Refusal}
 use Rattle.station.specs.declared.refusal.Refusal.TheVariants.{NotEnded, MemoryShort, OtherMark}
 use Rattle.station.specs.Inquiries as rules
 use Rattle.station.specs.Inquiries.{waiting, due, acknowledging, answering, receiving, ended}

@@ -1,12 +1,12 @@
 -- What an inquiry's stage rests on: its lodging, the copy put, and the frame that answered it.
-use Rattle.std.proofs.Common.{◌≡◌, ℕ, ◌+◌, Bool, true, leb, List, [], ◌∷◌, ◌++◌, Ok, sym, refl, subst, inl, inr}
+use Rattle.std.proofs.Common.{◌≡◌, ℕ, Bool, true, leb, List, [], ◌∷◌, ◌++◌, Ok, sym, refl, subst, inl, inr}
 use Rattle.std.proofs.lemmas.Bool.{cond_both}
 use Rattle.frames.specs.Finding.{Found, frame}
 use Rattle.lines.specs.Meaning.{Meaning}
 use Rattle.station.specs.Commands.{lawful_answer}
 use Rattle.station.specs.Inquiries.{answered, failed, Stage, waiting, due, acknowledging, answering, receiving, ended, Inquiry, written}
 use Rattle.station.specs.Exchange.{hear, hear_all, tick, opened, counted}
-use Rattle.station.specs.Stations.{Slip, put}
+use Rattle.station.specs.Stations.{Slip}
 use Rattle.station.specs.Histories.{Event, lodges, pulses, History, ◌▸◌, Occurs}
 use Rattle.station.specs.Promises.{In, AnswersRequest, awaited, by_radio, WasRead}
 use Rattle.station.proofs.Hearing.{FailsAt, again, gives_up, after_cases, Hears, same, acknowledged, refused, cut_off, goes_by_radio, gets_answer, gets_radio, hear_cases}

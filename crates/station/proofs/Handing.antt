@@ -1,5 +1,5 @@
 -- Each slip is handed its outcome once: what collecting tells, from call to call.
-use Rattle.std.proofs.Common.{◌≡◌, ℕ, ◌+◌, ◌⊎◌, List, [], ◌∷◌, ◌++◌, Some, None, Ok, Err, Option, Result, sym, refl, ap, ◌∙◌, subst, inl, inr, ⊎_elim, arith}
+use Rattle.std.proofs.Common.{◌≡◌, ℕ, ◌⊎◌, List, [], ◌∷◌, ◌++◌, Some, None, Ok, Err, Option, Result, sym, refl, ap, ◌∙◌, subst, inl, inr, ⊎_elim, arith}
 use Rattle.std.proofs.lemmas.Bool.{cases_eq, cases_Bool, cond-true, eq-eqb}
 use Rattle.station.specs.declared.refusal.Refusal.{Refusal}
 use Rattle.station.specs.declared.refusal.Refusal.TheVariants.{OtherMark, NumberNotHeld, NotEnded}
@@ -8,7 +8,7 @@ use Rattle.station.specs.Stations.{Slip, Station, new_inquiry, lodge_cause, lodg
 use Rattle.station.specs.Histories.{Event, lodges, pulses, collects, History, made, ◌▸◌, Run, Step, Given, Tells, Unfinished}
 use Rattle.station.specs.Promises.{Always, In, AnswersOneWay, Gives, Hands, IsPulse, CollectsByTheRules}
 use Rattle.station.proofs.Numbers.{numbers, rising_below, numbers_pulse, held_number, not_held, in_held}
-use Rattle.station.proofs.Lookups.{looked, held_before, held_behind, held_without, held_pulse}
+use Rattle.station.proofs.Lookups.{held_before, held_behind, held_without, held_pulse}
 use Rattle.station.proofs.Turns.{clash}
 use Rattle.station.proofs.Asking.{told, tells, told_so, told_own, told_other, Had, had, collected, told_unfinished, told_ended, open_slip, lodge_mark, collect_mark}
 use Rattle.station.proofs.Invariants.{good, first_number}

@@ -1,5 +1,5 @@
 -- Handling findings one after another is handling all that the bytes hold.
-use Rattle.std.proofs.Common.{◌≡◌, ℕ, zero, suc, ◌+◌, ◌<◌, List, [], ◌∷◌, ◌++◌, length, take, drop, Some, None, Option, sym, refl, ap, ◌∙◌, subst, append_assoc, append-nil, arith, take-append-drop}
+use Rattle.std.proofs.Common.{◌≡◌, ℕ, zero, suc, ◌+◌, List, [], ◌∷◌, ◌++◌, length, take, Some, None, Option, sym, refl, ap, ◌∙◌, subst, append_assoc, append-nil, arith, take-append-drop}
 use Rattle.frames.specs.declared.finding.Finding.{Finding}
 use Rattle.frames.specs.declared.finding.Finding.TheVariants.{Frame, Dropped, Nothing}
 use Rattle.frames.specs.declared.frame.Frame as rust
@@ -15,7 +15,6 @@ use Rattle.station.specs.Exchange.{hear, hear_all, heard}
 use Rattle.station.specs.Stations as rules_of
 use Rattle.station.specs.Stations.{put, replies, taken, unless_silent}
 use Rattle.station.proofs.Readings.{nothing}
-use Rattle.station.specs.Held.{hears as hears_one}
 use Rattle.station.specs.Intakes.{Drained, ReadsNext}
 use Rattle.station.specs.Replies.{reply_if}
 use Rattle.station.specs.Tables.{place_where, Within, alter, alter_at}

@@ -1,14 +1,13 @@
 -- Looking an inquiry up by its number, and leaving it out.
-use Rattle.std.proofs.Common.{◌≡◌, ℕ, suc, ◌+◌, ◌<◌, true, false, cond, eqb, leb, List, [], ◌∷◌, ◌++◌, map, length, take, drop, Some, None, vec_items, vec_len, Option, sym, refl, ap, ◌∙◌, subst, arith}
+use Rattle.std.proofs.Common.{◌≡◌, ℕ, suc, ◌+◌, false, eqb, List, [], ◌∷◌, ◌++◌, map, length, take, drop, Some, None, vec_items, vec_len, Option, sym, refl, ap, ◌∙◌, subst, arith}
 use Rattle.std.proofs.lemmas.List.{length-map}
 use Rattle.std.proofs.lemmas.Bool.{cond_both, cond-true, cond-false}
 use Rattle.frames.specs.Numbered.{place_from, place_of}
-use Rattle.station.specs.Inquiries as rules
 use Rattle.station.specs.Stations.{held_under, without}
 use Rattle.station.specs.declared.inquiry.Inquiry.{Inquiry}
 use Rattle.station.specs.declared.places.Places.{Places}
 use Rattle.station.specs.Held.{inquiry_of}
-use Rattle.station.specs.Tables.{places_of, left_out, HoldsAt}
+use Rattle.station.specs.Tables.{places_of, HoldsAt}
 
 pub many : (p : Places) → length (places_of p) ≡ vec_len p.inquiries
 many p = length-map (vec_items p.inquiries) inquiry_of ∙ sym p.inquiries.ok.0

@@ -5,7 +5,7 @@ use Rattle.frames.specs.Finding.{Found}
 use Rattle.lines.specs.Meaning.{Meaning}
 use Rattle.station.specs.declared.refusal.Refusal.{Refusal}
 use Rattle.station.specs.Inquiries.{Inquiry, has_ended, Outcome}
-use Rattle.station.specs.Stations.{Slip, Station, first, new_inquiry, lodge_cause, lodge_after, without, held_under, replies, attempts, up_to_step_three, Pulsed, collect_after}
+use Rattle.station.specs.Stations.{Slip, Station, new_inquiry, lodge_cause, lodge_after, without, held_under, replies, attempts, up_to_step_three, Pulsed, collect_after}
 use Rattle.station.specs.Histories.{Event, lodges, pulses, collects, History, made, ◌▸◌, Run, Step}
 use Rattle.station.proofs.Turns.{Over, Unbegun, all_join, moved}
 use Rattle.station.proofs.Costs.{cost, moved_cost, ended_cost}

@@ -1,11 +1,11 @@
 -- The evidence of each inquiry is kept through a pulse.
-use Rattle.std.proofs.Common.{◌≡◌, ℕ, ◌+◌, Bool, true, false, List, [], ◌∷◌, ◌++◌, Some, None, Option, sym, refl, ap, ◌∙◌, subst, inl, inr, ⊎_elim, append_assoc, arith}
+use Rattle.std.proofs.Common.{◌≡◌, ℕ, Bool, true, false, List, [], ◌∷◌, ◌++◌, Some, None, Option, sym, refl, ap, ◌∙◌, subst, inl, inr, ⊎_elim, append_assoc, arith}
 use Rattle.std.specs.List.{AllByRecursion as All}
 use Rattle.std.proofs.lemmas.Bool.{cond_both, cond-true, cond-false, cases_Bool}
 use Rattle.frames.specs.Finding.{frame}
 use Rattle.lines.specs.Meaning.{Meaning}
 use Rattle.station.specs.Commands.{lawful_answer}
-use Rattle.station.specs.Inquiries.{answered, Stage, waiting, due, acknowledging, answering, receiving, ended, Inquiry, written, own_frame, under_way, waits_still, is_due}
+use Rattle.station.specs.Inquiries.{Stage, waiting, due, acknowledging, answering, receiving, ended, Inquiry, written, own_frame, under_way, waits_still, is_due}
 use Rattle.station.specs.Exchange.{heard, ticked, begun, counted}
 use Rattle.station.specs.Stations.{Station, change, first, hears, ends_periods, begins_unless, has_space, put, due_frame, replies, up_to_step_three, taken, Pulsed}
 use Rattle.station.specs.Histories.{pulses, History, ◌▸◌, Run}

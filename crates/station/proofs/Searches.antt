@@ -7,7 +7,7 @@ use Rattle.frames.specs.Samples.{both, judge_at, search_from}
 use Rattle.frames.proofs.Holding.{waits_held}
 use Rattle.frames.proofs.Searching.{search_is_the_rule}
 use Rattle.station.specs.Stations.{taken}
-use Rattle.station.specs.Computing.{left_open, read_next, read_from, read_all, reads, ComputesThePulse}
+use Rattle.station.specs.Computing.{left_open, read_next, read_from, read_all, ComputesThePulse}
 use Rattle.station.proofs.Turns.{clash}
 
 both_parts : (x y : Bool) → both x y ≡ true → (x ≡ true) × (y ≡ true)

@@ -1,10 +1,9 @@
 -- The books are kept through every call, and so requests go out in the order lodged.
-use Rattle.std.proofs.Common.{◌≡◌, ℕ, ◌+◌, ◌≤◌, false, List, [], ◌∷◌, ◌++◌, map, length, Some, None, Ok, Err, Option, Result, sym, refl, ap, ◌∙◌, subst, inl, inr, append_assoc, append-nil, arith}
+use Rattle.std.proofs.Common.{◌≡◌, ℕ, ◌≤◌, false, List, [], ◌∷◌, ◌++◌, map, length, Some, None, Ok, Err, Option, Result, sym, refl, ap, ◌∙◌, subst, inl, inr, append_assoc, append-nil, arith}
 use Rattle.std.specs.List.{AllByRecursion as All}
 use Rattle.station.specs.declared.refusal.Refusal.{Refusal}
 use Rattle.station.specs.Commands.{request_cause}
 use Rattle.station.specs.Inquiries.{Outcome, Inquiry, Frame, has_ended}
-use Rattle.station.specs.Exchange.{counted}
 use Rattle.station.specs.Stations.{Slip, Station, new_inquiry, by_room, lodge_cause, lodge_after, lodge_answer, without, held_under, collect_after}
 use Rattle.station.specs.Histories.{Event, lodges, pulses, collects, History, made, ◌▸◌, Run, Step, Handed}
 use Rattle.station.specs.Promises.{Always, In, Puts, is_control, lodgings, Tally, all_copies, SendsInOrder}

@@ -7,12 +7,11 @@ use Rattle.station.specs.declared.refusal.Refusal.{Refusal}
 use Rattle.station.specs.declared.fault.Fault.{Fault}
 use Rattle.station.specs.Inquiries.{failed, Outcome, Stage, ended, Inquiry, written, own_frame, under_way, waits_still, is_due}
 use Rattle.station.specs.Exchange.{heard, ticked, begun}
-use Rattle.station.specs.Stations.{Slip, Station, first, hears, ends_periods, begins_unless, has_space, put, due_frame, replies, attempts, up_to_step_three, new_inquiry, lodge_cause, lodge_after, lodge_answer, Pulsed, collect_after}
+use Rattle.station.specs.Stations.{Slip, Station, first, hears, ends_periods, begins_unless, has_space, put, due_frame, replies, up_to_step_three, new_inquiry, lodge_cause, lodge_after, lodge_answer, Pulsed, collect_after}
 use Rattle.station.specs.Histories.{Event, lodges, pulses, collects, History, made, ◌▸◌, Run, Step}
 use Rattle.station.specs.Promises.{Always}
 use Rattle.station.specs.Attempts.{LackedSpace, Earned, WasTried, FaultsAreEarned}
 use Rattle.station.proofs.Turns.{all_map, all_join, tries}
-use Rattle.station.proofs.Hearing.{same}
 use Rattle.station.proofs.Numbers.{all_without, all_in, held_number}
 use Rattle.station.proofs.Asking.{Had, had, collected}
 use Rattle.station.proofs.Slips.{slip_of, same_slip}

@@ -1,5 +1,5 @@
 -- What holds of every history of a station, in terms of calls, slips, pulses, frames, bytes and outcomes.
-use Rattle.std.specs.Prelude.{◌≡◌, ℕ, ◌+◌, ◌<◌, ◌≤◌, Bool, true, cond, ◌||◌, ◌⊎◌, List, [], ◌∷◌, ◌++◌, map, length, take, replicate, Ok, Err, Result, ◌≢◌, slice_index}
+use Rattle.std.specs.Prelude.{◌≡◌, ℕ, ◌<◌, ◌≤◌, Bool, true, cond, ◌||◌, ◌⊎◌, List, [], ◌∷◌, ◌++◌, map, length, take, replicate, Ok, Err, Result, ◌≢◌, slice_index}
 use Rattle.std.specs.List.{AllByRecursion as All}
 use Rattle.frames.specs.Finding.{Found, frame}
 use Rattle.frames.specs.Promises.{Reading}

@@ -1,7 +1,5 @@
 -- Where an inquiry stands before it has begun.
 use Rattle.std.specs.Prelude.{ℕ}
-use Rattle.frames.specs.declared.frame.Frame as rust
-use Rattle.station.specs.declared.fault.Fault.{Fault}
 use Rattle.station.specs.declared.stage.Stage.{Stage}
 use Rattle.station.specs.declared.stage.Stage.TheVariants.{Waiting, Trying, Answering, Receiving, Answered, Failed}
 

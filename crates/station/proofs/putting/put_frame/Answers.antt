@@ -1,4 +1,4 @@
-use Rattle.std.proofs.Common.{◌≡◌, length, is_ok, sym, subst}
+use Rattle.std.proofs.Common.{length, sym, subst}
 use Rattle.station.specs.Putting.{Puts}
 use Rattle.station.proofs.FramesPut.{few_written, frame_first, puts_whole}
 use Rattle.station.proofs.putting.put_frame.Goals as goal
@@ -11,7 +11,7 @@ returns-in-Ok g c =
     let after = c.put.new.self in
     let whole = frame_first c.args.cmd d _ c.write.new.memory c.in-Ok.count w.answered w.written in
     record {
-      put = subst (λ b. Puts (g.L.Line.meaning line) c.args.cmd d b (g.L.Line.meaning after)) (sym c.is-ok.ensures.value)
+      put = subst (λ b. Puts (g.L.Line.meaning line) c.args.cmd d b (g.L.Line.meaning after)) (sym c.is_ok.ensures.value)
           (puts_whole (g.L.Line.meaning line) c.args.cmd d _ c.put.result (g.L.Line.meaning after) (few_written (length d) 257 w.refused) whole c.put.ensures.put);
       fixed = c.put.ensures.fixed;
     }

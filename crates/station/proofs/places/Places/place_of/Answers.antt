@@ -8,5 +8,5 @@ pub returns : goal.returns
 returns c =
     record {
       held = held_at c.args.number (vec_items c.args.self.now.inquiries) c.find.result
-          (c.find.ensures.place ∙ ap (λ l. place_of (λ (q : Inquiry). q.number) c.args.number l) c.as-slice.ensures.value);
+          (c.find.ensures.place ∙ ap (λ l. place_of (λ (q : Inquiry). q.number) c.args.number l) c.as_slice.ensures.value);
     }

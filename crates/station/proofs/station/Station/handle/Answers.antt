@@ -21,12 +21,12 @@ returns-in-Frame g c =
       reader = refl;
     }
 
-pub returns-in-default : goal.returns-in-default
-returns-in-default g c =
+pub returns-in_default : goal.returns-in_default
+returns-in_default g c =
     let told = c.reply.ensures.replied in
     record {
       handled = record {
-        places = all_unheard c.args.turn c.args.finding.now c.in-default.not-Frame (places_of c.args.self.now.places);
+        places = all_unheard c.args.turn c.args.finding.now c.in_default.not-Frame (places_of c.args.self.now.places);
         mark = refl;
         next = refl;
         outgoing = told.outgoing;

@@ -1,4 +1,4 @@
-use Rattle.std.proofs.Common.{◌≡◌, length, Some, Ok, sym, ap, ◌∙◌, arith}
+use Rattle.std.proofs.Common.{length, Some, Ok, sym, ap, ◌∙◌, arith}
 use Rattle.station.specs.Held.{inquiry_of}
 use Rattle.station.specs.Answering.{slip_of}
 use Rattle.station.specs.Working.{station_of}
