@@ -1,5 +1,5 @@
 -- Every sample case of a card, computed; those of the levels below hold there.
-use Rattle.std.proofs.Common.{◌≡◌, true, refl, ◌∙◌}
+use Rattle.std.proofs.Common.{◌≡◌, true, refl}
 use Rattle.frames.specs.Crc.{shift, shift_once}
 use Rattle.frames.specs.Samples.{all}
 use Rattle.station.specs.Inquiries.{written}

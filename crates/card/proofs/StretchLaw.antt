@@ -1,11 +1,11 @@
 -- Over every history a card holds what its paper card holds, the frames read told by the stretches of bytes taken.
-use Rattle.std.proofs.Common.{◌≡◌, ℕ, List, [], ◌∷◌, ◌++◌, sym, refl, ap, ◌∙◌, subst}
+use Rattle.std.proofs.Common.{◌≡◌, List, [], ◌++◌, sym, refl, ap, ◌∙◌, subst}
 use Rattle.station.specs.Inquiries.{Frame}
 use Rattle.station.specs.Stations.{taken}
 use Rattle.boards.specs.Boards.{Kind}
-use Rattle.card.specs.Contents.{Contents, channel_mode}
+use Rattle.card.specs.Contents.{channel_mode}
 use Rattle.card.specs.CardPulse.{Card, holds_after_all}
-use Rattle.card.specs.PaperCard.{fed_one, fed}
+use Rattle.card.specs.PaperCard.{fed}
 use Rattle.card.specs.CardHistories.{History, made, ◌▸◌, Run, at_first, stretches, with_taken, right_frames, EqualsPaperCardByStretches, Always}
 use Rattle.card.proofs.PaperLaw.{fed_append}
 use Rattle.card.proofs.FramesRead.{LeavesOpen, frames_in, one_list, reads_on}

@@ -1,5 +1,5 @@
 -- A card's pulse as a computation, by the search that reads all the bytes.
-use Rattle.std.specs.Prelude.{List, ◌++◌}
+use Rattle.std.specs.Prelude.{◌++◌}
 use Rattle.lines.specs.Meaning.{Meaning}
 use Rattle.station.specs.Stations.{put, taken, left_waiting, unless_silent}
 use Rattle.station.specs.Computing.{Read, read_all}

@@ -1,12 +1,11 @@
 -- Cases of a card worked out by hand, as one table with those of the levels below: each row is a test that computes to true.
 use Rattle.std.specs.Prelude.{ℕ, zero, suc, ◌+◌, Bool, List, [], ◌∷◌, ◌++◌}
 use Rattle.std.specs.Str.{bytes_eq}
-use Rattle.station.specs.Inquiries.{Frame, written}
-use Rattle.station.specs.Exchange.{ack, nak, error}
+use Rattle.station.specs.Inquiries.{written}
+use Rattle.station.specs.Exchange.{nak, error}
 use Rattle.station.specs.Samples.{line_with, dead, at_pulse, asked, told_value, acknowledge, samples as station_samples}
 use Rattle.parameters.specs.Parameters.{first_value}
 use Rattle.boards.specs.Boards.{Kind, wavecard_25, wavecard_500}
-use Rattle.card.specs.Contents.{Contents}
 use Rattle.card.specs.CardPulse.{Card, fresh}
 use Rattle.card.specs.CardComputing.{reads, card_after, line_after}
 
