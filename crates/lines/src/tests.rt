@@ -44,7 +44,7 @@ fn a_tape_keeps_what_is_sent(rt: HostRuntime) {
     let mut tape = Tape::new(&[7, 8]);
     assert_eq!(rt; tape.take(), Some(7));
     assert_eq!(rt; tape.put(&[1, 2]), Ok(()));
-    assert!(rt; tape.sent() == &[1, 2]);
+    assert!(rt; tape.sent() == [1, 2].as_slice());
     tape.clear();
     assert_eq!(rt; tape.space(), 1024);
 }

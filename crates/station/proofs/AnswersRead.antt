@@ -1,6 +1,6 @@
 -- An outcome's answer data was read: the evidence of each inquiry through every call.
 use Rattle.std.proofs.Common.{◌≡◌, ℕ, List, [], ◌∷◌, Some, None, Ok, Err, Option, Result, sym, refl, ap, ◌∙◌, subst, inl, inr}
-use Rattle.std.specs.List.{AllByRecursion as All}
+use Rattle.std.specs.List.{AllByRecursion}
 use Rattle.station.specs.declared.refusal.Refusal.{Refusal}
 use Rattle.station.specs.Inquiries.{answered, Outcome, ended, Inquiry}
 use Rattle.station.specs.Stations.{Slip, Station, new_inquiry, lodge_cause, lodge_after, lodge_answer, collect_after}
@@ -15,7 +15,7 @@ use Rattle.station.proofs.PulseEvidence.{pulse_evidence}
 
 -- each inquiry held has its evidence
 Shown : History → ℕ → List Inquiry → Type 0
-Shown h mark qs = All (λ q. Evidence h h (slip_of mark q.number) q) qs
+Shown h mark qs = AllByRecursion (λ q. Evidence h h (slip_of mark q.number) q) qs
 
 lodge_shown : (h : History) (b : Station) (c : ℕ) (d : List ℕ) (o : Option Refusal) → Shown h b.mark b.places
     → Shown (h ▸ lodges c d (lodge_answer b o)) (lodge_after b c d o).mark (lodge_after b c d o).places

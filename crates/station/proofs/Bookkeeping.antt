@@ -1,6 +1,6 @@
 -- The books are kept through a pulse.
 use Rattle.std.proofs.Common.{◌≡◌, ℕ, ◌≤◌, false, List, [], ◌∷◌, ◌++◌, map, Some, None, Option, sym, refl, ap, ◌∙◌, subst, inl, inr, append_assoc, append-nil, arith}
-use Rattle.std.specs.List.{AllByRecursion as All}
+use Rattle.std.specs.List.{AllByRecursion}
 use Rattle.std.proofs.lemmas.Bool.{cond_both}
 use Rattle.lines.specs.Meaning.{Meaning}
 use Rattle.station.specs.Inquiries.{Outcome, Inquiry, written, own_frame, is_due}
@@ -26,8 +26,8 @@ module _ (h : History) (b s : Station) (line line_after : Meaning) (books : Book
   -- the ended ones move on to `done`, and one inquiry tries
   turned : (done : List Tally) (past : List Inquiry) (q : Inquiry) (more : List Inquiry)
       → s.places ≡ past ++ (tries line.capacity (replies line.capacity p.findings line.outgoing) q ∷ more)
-      → first is_due (up_to_step_three p.findings b.places) ≡ if_due q → All Over past → Queue (tries line.capacity (replies line.capacity p.findings line.outgoing) q ∷ more)
-      → All Unbegun more → Sound q → All Sound more → All (λ t. t.copies ≤ 4) done → All (λ x. In (tally_of b.mark x) done) past
+      → first is_due (up_to_step_three p.findings b.places) ≡ if_due q → AllByRecursion Over past → Queue (tries line.capacity (replies line.capacity p.findings line.outgoing) q ∷ more)
+      → AllByRecursion Unbegun more → Sound q → AllByRecursion Sound more → AllByRecursion (λ t. t.copies ≤ 4) done → AllByRecursion (λ x. In (tally_of b.mark x) done) past
       → ((t : Tally) → In t books.done → In t done) → books.done ++ tallies b.mark books.queue ≡ done ++ tallies b.mark (q ∷ more)
       → Books (h ▸ pulses line line_after) b.mark s.places
   turned done past q more list attempt over queued wait sound sounds few entered grown same =
@@ -54,8 +54,8 @@ module _ (h : History) (b s : Station) (line line_after : Meaning) (books : Book
       }
 
   -- nothing was due
-  settled : (done : List Tally) (past : List Inquiry) → s.places ≡ past → first is_due (up_to_step_three p.findings b.places) ≡ None → All Over past
-      → All (λ t. t.copies ≤ 4) done → All (λ x. In (tally_of b.mark x) done) past → ((t : Tally) → In t books.done → In t done)
+  settled : (done : List Tally) (past : List Inquiry) → s.places ≡ past → first is_due (up_to_step_three p.findings b.places) ≡ None → AllByRecursion Over past
+      → AllByRecursion (λ t. t.copies ≤ 4) done → AllByRecursion (λ x. In (tally_of b.mark x) done) past → ((t : Tally) → In t books.done → In t done)
       → books.done ++ tallies b.mark books.queue ≡ done → Books (h ▸ pulses line line_after) b.mark s.places
   settled done past list attempt over few entered grown same =
       let new = page h b s line line_after books.frames books.puts p None attempt (λ q e. absurd (let z : ◌≡◌ {A = ℕ} 0 1 = cc in omega arith)) in
@@ -78,10 +78,10 @@ module _ (h : History) (b s : Station) (line line_after : Meaning) (books : Book
 
   -- one more has ended
   module _ (q : Inquiry) (way : Sound q) where
-    few_more : All (λ t. t.copies ≤ 4) (books.done ++ (tally_of b.mark q ∷ []))
+    few_more : AllByRecursion (λ t. t.copies ≤ 4) (books.done ++ (tally_of b.mark q ∷ []))
     few_more = all_join (λ t. t.copies ≤ 4) books.done _ books.few (at_most_four q.stage q.copies way.0, tt)
 
-    entered_more : All (λ x. In (tally_of b.mark x) (books.done ++ (tally_of b.mark q ∷ []))) (books.past ++ (moved p.findings q ∷ []))
+    entered_more : AllByRecursion (λ x. In (tally_of b.mark x) (books.done ++ (tally_of b.mark q ∷ []))) (books.past ++ (moved p.findings q ∷ []))
     entered_more =
         all_join (λ x. In (tally_of b.mark x) (books.done ++ (tally_of b.mark q ∷ []))) books.past (moved p.findings q ∷ [])
         (all_map (λ x i. in_left (tally_of b.mark x) books.done (tally_of b.mark q ∷ []) i) books.past books.entered)
@@ -96,19 +96,19 @@ module _ (h : History) (b s : Station) (line line_after : Meaning) (books : Book
       settled books.done books.past (list ∙ f) (attempt ∙ a) books.over books.few books.entered (λ t i. i)
       (ap (λ l. books.done ++ tallies b.mark l) e ∙ append-nil books.done)
   moves_books (starts q more e unbegun wait f a) list attempt =
-      let sound = subst (All Sound) e books.sound in
+      let sound = subst (AllByRecursion Sound) e books.sound in
       turned books.done books.past (begun q) more (list ∙ f) (attempt ∙ a) books.over (inl refl, wait) wait
       ((omega (arith, unbegun.1), omega arith), sound.0.1) sound.1 books.few books.entered (λ t i. i) (ap (λ l. books.done ++ tallies b.mark l) e)
   moves_books (continues q more e way wait still f a) list attempt =
-      let sound = subst (All Sound) e books.sound in
+      let sound = subst (AllByRecursion Sound) e books.sound in
       turned books.done books.past (moved p.findings q) more (list ∙ f) (attempt ∙ a) books.over (inl (opened_under_way (moved p.findings q).stage still), wait) wait
       (moved_counted p.findings q sound.0.0, sound.0.1) sound.1 books.few books.entered (λ t i. i) (ap (λ l. books.done ++ tallies b.mark l) e)
   moves_books (finishes q e way over f a) list attempt =
-      let sound = subst (All Sound) e books.sound in
+      let sound = subst (AllByRecursion Sound) e books.sound in
       settled (books.done ++ (tally_of b.mark q ∷ [])) (books.past ++ (moved p.findings q ∷ [])) (list ∙ f) (attempt ∙ a) (one_more books.past (moved p.findings q) books.over over)
       (few_more q sound.0) (entered_more q sound.0) (grown_more q sound.0) (ap (λ l. books.done ++ tallies b.mark l) e)
   moves_books (hands_over q next more e way wait over f a) list attempt =
-      let sound = subst (All Sound) e books.sound in
+      let sound = subst (AllByRecursion Sound) e books.sound in
       turned (books.done ++ (tally_of b.mark q ∷ [])) (books.past ++ (moved p.findings q ∷ [])) (begun next) more (list ∙ f) (attempt ∙ a)
       (one_more books.past (moved p.findings q) books.over over) (inl refl, wait.1) wait.1
       ((omega (arith, wait.0.1), omega arith), sound.1.0.1) sound.1.1 (few_more q sound.0) (entered_more q sound.0) (grown_more q sound.0)

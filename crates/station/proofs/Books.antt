@@ -1,6 +1,6 @@
 -- The books of a history: every inquiry ever lodged with its copies, and the frames that were put.
 use Rattle.std.proofs.Common.{◌≡◌, ℕ, ◌≤◌, false, List, [], ◌∷◌, ◌++◌, map, replicate, Some, None, Option, sym, refl, ap, ◌∙◌, append_assoc, append-nil}
-use Rattle.std.specs.List.{AllByRecursion as All}
+use Rattle.std.specs.List.{AllByRecursion}
 use Rattle.std.proofs.lemmas.Bool.{cond_both, cond-false}
 use Rattle.lines.specs.Meaning.{Meaning}
 use Rattle.station.specs.Inquiries.{Outcome, Inquiry, Frame, written, own_frame, is_due}
@@ -31,11 +31,11 @@ pub record Books (h : History) (mark : ℕ) (places : List Inquiry) : Type 0 whe
   pub past : List Inquiry
   pub queue : List Inquiry
   pub split : places ≡ past ++ queue
-  pub over : All Over past
+  pub over : AllByRecursion Over past
   pub queued : Queue queue
-  pub sound : All Sound queue
-  pub few : All (λ t. t.copies ≤ 4) done
-  pub entered : All (λ q. In (tally_of mark q) done) past
+  pub sound : AllByRecursion Sound queue
+  pub few : AllByRecursion (λ t. t.copies ≤ 4) done
+  pub entered : AllByRecursion (λ q. In (tally_of mark q) done) past
   pub lodged : lodgings h ≡ map (λ t. t.lodging) (done ++ tallies mark queue)
   pub sent : requests frames ≡ all_copies (done ++ tallies mark queue)
   pub handed : (slip : Slip) (o : Outcome) → Handed slip o h → (t : Tally) × In t done × (t.lodging.slip ≡ slip) × (t.copies ≡ o.copies)
@@ -45,7 +45,7 @@ copies_join [] ys = refl
 copies_join (x ∷ xs) ys =
     ap (λ l. replicate x.copies x.lodging.frame ++ l) (copies_join xs ys) ∙ sym (append_assoc (replicate x.copies x.lodging.frame) (all_copies xs) (all_copies ys))
 
-no_copies : (mark : ℕ) (qs : List Inquiry) → All Unbegun qs → all_copies (tallies mark qs) ≡ []
+no_copies : (mark : ℕ) (qs : List Inquiry) → AllByRecursion Unbegun qs → all_copies (tallies mark qs) ≡ []
 no_copies mark [] u = refl
 no_copies mark (q ∷ qs) u = (λ i. replicate (u.0.1 i) (own_frame q) ++ no_copies mark qs u.1 i)
 
@@ -58,7 +58,7 @@ map_join f [] ys = refl
 map_join f (x ∷ xs) ys = ap (λ l. f x ∷ l) (map_join f xs ys)
 
 -- the first of the queue puts its frame behind all that was put
-pub last_sends : (mark capacity : ℕ) (outgoing : List ℕ) (done : List Tally) (q : Inquiry) (more : List Inquiry) → All Unbegun more
+pub last_sends : (mark capacity : ℕ) (outgoing : List ℕ) (done : List Tally) (q : Inquiry) (more : List Inquiry) → AllByRecursion Unbegun more
     → all_copies (done ++ tallies mark (tries capacity outgoing q ∷ more)) ≡ all_copies (done ++ tallies mark (q ∷ more)) ++ sent_now capacity outgoing (if_due q)
 last_sends mark capacity outgoing done q more u =
     let rest = no_copies mark more u in

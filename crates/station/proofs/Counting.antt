@@ -1,6 +1,6 @@
 -- How many inquiries are unfinished: no more than a list of slips that names each of them.
 use Rattle.std.proofs.Common.{◌≡◌, ℕ, ◌+◌, ◌*◌, ◌≤◌, false, cond, List, [], ◌∷◌, length, Some, sym, refl, ap, ◌∙◌, inl, inr, ⊎_elim, arith}
-use Rattle.std.specs.List.{AllByRecursion as All}
+use Rattle.std.specs.List.{AllByRecursion}
 use Rattle.std.proofs.lemmas.Bool.{cond_both, cond-true, cond-false, eq-eqb, ne_eqb}
 use Rattle.station.specs.Inquiries.{Inquiry, has_ended}
 use Rattle.station.specs.Stations.{Slip, held_under}
@@ -71,7 +71,7 @@ total [] = 0
 total (q ∷ qs) = cost q.stage + total qs
 
 -- each unfinished inquiry has at most 70 pulses left
-pub total_bounded : (qs : List Inquiry) → All Bounded qs → total qs ≤ 70 * length (open_numbers qs)
+pub total_bounded : (qs : List Inquiry) → AllByRecursion Bounded qs → total qs ≤ 70 * length (open_numbers qs)
 total_bounded [] b = omega arith
 total_bounded (q ∷ qs) b =
     cond_both (has_ended q.stage) _ _ (λ l. cost q.stage + total qs ≤ 70 * length l)

@@ -1,6 +1,6 @@
 -- What holds of every station that a history leads to: rising numbers, the order of the inquiries, and pulses left.
 use Rattle.std.proofs.Common.{◌≡◌, ℕ, ◌+◌, ◌≤◌, List, [], ◌∷◌, ◌++◌, Some, None, Ok, Err, Option, Result, sym, refl, ap, ◌∙◌, subst, inr, append_assoc, arith}
-use Rattle.std.specs.List.{AllByRecursion as All}
+use Rattle.std.specs.List.{AllByRecursion}
 use Rattle.frames.specs.Finding.{Found}
 use Rattle.lines.specs.Meaning.{Meaning}
 use Rattle.station.specs.declared.refusal.Refusal.{Refusal}
@@ -13,7 +13,7 @@ use Rattle.station.proofs.Pulses.{Queue, Orderly, Moves, rests, starts, continue
 use Rattle.station.proofs.Numbers.{numbers, Rising, rising_push, numbers_pulse, numbers_join, rising_without, all_without, remove_past}
 use Rattle.station.proofs.Asking.{Had, had, collected}
 
-pub all_split : {X : Type 0} (P : X → Type 0) (xs ys : List X) → All P (xs ++ ys) → All P xs × All P ys
+pub all_split : {X : Type 0} (P : X → Type 0) (xs ys : List X) → AllByRecursion P (xs ++ ys) → AllByRecursion P xs × AllByRecursion P ys
 all_split P [] ys a = (tt, a)
 all_split P (x ∷ xs) ys a = let deeper = all_split P xs ys a.1 in ((a.0, deeper.0), deeper.1)
 
@@ -24,7 +24,7 @@ Bounded q = cost q.stage ≤ 70
 pub record Good (low : ℕ) (s : Station) : Type 0 where
   pub rising : Rising low (numbers s.places) s.next
   pub order : Orderly s.places
-  pub bounded : All Bounded s.places
+  pub bounded : AllByRecursion Bounded s.places
 
 pub queue_push : (queue : List Inquiry) (q : Inquiry) → Queue queue → Unbegun q → Queue (queue ++ (q ∷ []))
 queue_push [] q queued u = (inr u, tt)
@@ -67,19 +67,19 @@ collect_good low s slip (Ok o) has good =
 
 module _ (fs : List (ℕ × Found)) (capacity : ℕ) (outgoing : List ℕ) where
   -- no pulse makes an inquiry's time longer
-  moves_bounded : {es queue after : List Inquiry} {attempt : Option Inquiry} → All Bounded es → All Bounded queue → Moves fs capacity outgoing es queue after attempt → All Bounded after
-  moves_bounded {es} a b (rests e f t) = subst (All Bounded) (sym f) a
+  moves_bounded : {es queue after : List Inquiry} {attempt : Option Inquiry} → AllByRecursion Bounded es → AllByRecursion Bounded queue → Moves fs capacity outgoing es queue after attempt → AllByRecursion Bounded after
+  moves_bounded {es} a b (rests e f t) = subst (AllByRecursion Bounded) (sym f) a
   moves_bounded {es} a b (starts q more e u w f t) =
-      subst (All Bounded) (sym f) (all_join Bounded es _ a (omega arith, (subst (All Bounded) e b).1))
+      subst (AllByRecursion Bounded) (sym f) (all_join Bounded es _ a (omega arith, (subst (AllByRecursion Bounded) e b).1))
   moves_bounded {es} a b (continues q more e way w still f t) =
-      let both = subst (All Bounded) e b in
-      subst (All Bounded) (sym f) (all_join Bounded es _ a (omega (arith, moved_cost fs q still, both.0), both.1))
+      let both = subst (AllByRecursion Bounded) e b in
+      subst (AllByRecursion Bounded) (sym f) (all_join Bounded es _ a (omega (arith, moved_cost fs q still, both.0), both.1))
   moves_bounded {es} a b (finishes q e way done f t) =
-      subst (All Bounded) (sym f) (all_join Bounded es _ a (omega (arith, ended_cost (moved fs q).stage done), tt))
+      subst (AllByRecursion Bounded) (sym f) (all_join Bounded es _ a (omega (arith, ended_cost (moved fs q).stage done), tt))
   moves_bounded {es} a b (hands_over q next more e way w done f t) =
-      subst (All Bounded) (sym f)
+      subst (AllByRecursion Bounded) (sym f)
       (all_join Bounded (es ++ (moved fs q ∷ [])) _ (all_join Bounded es (moved fs q ∷ []) a (omega (arith, ended_cost (moved fs q).stage done), tt))
-      (omega arith, (subst (All Bounded) e b).1.1))
+      (omega arith, (subst (AllByRecursion Bounded) e b).1.1))
 
 pulse_good : (low : ℕ) (s t : Station) (line line_after : Meaning) → Pulsed s line t line_after → Good low s → Good low t
 pulse_good low s t line line_after p good =
@@ -89,12 +89,12 @@ pulse_good low s t line line_after p good =
     let queue = good.order.queue in
     let moves = pulse_moves fs line.capacity out past queue good.order.over good.order.queued in
     let list = p.places ∙ ap (λ l. attempts line.capacity out (up_to_step_three fs l)) good.order.split in
-    let bounds = all_split Bounded past queue (subst (All Bounded) good.order.split good.bounded) in
+    let bounds = all_split Bounded past queue (subst (AllByRecursion Bounded) good.order.split good.bounded) in
     record {
       rising = subst (Rising low (numbers t.places)) (sym p.next)
           (subst (λ ns. Rising low ns s.next) (sym (ap numbers p.places ∙ numbers_pulse fs line.capacity out s.places)) good.rising);
       order = subst Orderly (sym list) (moves_orderly fs line.capacity out good.order.over moves);
-      bounded = subst (All Bounded) (sym list) (moves_bounded fs line.capacity out bounds.0 bounds.1 moves);
+      bounded = subst (AllByRecursion Bounded) (sym list) (moves_bounded fs line.capacity out bounds.0 bounds.1 moves);
     }
 
 pub step_good : (low : ℕ) (s t : Station) (e : Event) → Step s e t → Good low s → Good low t

@@ -1,6 +1,6 @@
 -- Numbers rise in the order lodged: what adding, changing and removing an inquiry does to them.
 use Rattle.std.proofs.Common.{◌≡◌, ℕ, ◌+◌, ◌<◌, ◌≤◌, Bool, eqb, List, [], ◌∷◌, ◌++◌, Some, None, Option, sym, refl, ap, ◌∙◌, subst, inl, inr, ⊎_elim, arith}
-use Rattle.std.specs.List.{AllByRecursion as All}
+use Rattle.std.specs.List.{AllByRecursion}
 use Rattle.std.proofs.lemmas.Bool.{cond_both, cond-true, cond-false, eqb-true, eqb-false, ne_eqb}
 use Rattle.frames.specs.Finding.{Found}
 use Rattle.station.specs.Inquiries.{Stage, Inquiry, under_way, waits_still, has_ended, is_due}
@@ -70,9 +70,9 @@ rising_without n low (q ∷ qs) high r =
     cond_both (eqb q.number n) _ _ (λ l. Rising low (numbers l) high)
     (λ e. rising_from (q.number + 1) low (numbers qs) high (omega (arith, r.0)) r.1) (λ e. (r.0, rising_without n (q.number + 1) qs high r.1))
 
-pub all_without : (P : Inquiry → Type 0) (n : ℕ) (qs : List Inquiry) → All P qs → All P (without n qs)
+pub all_without : (P : Inquiry → Type 0) (n : ℕ) (qs : List Inquiry) → AllByRecursion P qs → AllByRecursion P (without n qs)
 all_without P n [] a = tt
-all_without P n (q ∷ qs) a = cond_both (eqb q.number n) _ _ (All P) (λ e. a.1) (λ e. (a.0, all_without P n qs a.1))
+all_without P n (q ∷ qs) a = cond_both (eqb q.number n) _ _ (AllByRecursion P) (λ e. a.1) (λ e. (a.0, all_without P n qs a.1))
 
 pub in_without : (n m : ℕ) (qs : List Inquiry) → In m (numbers (without n qs)) → In m (numbers qs)
 in_without n m [] i = i
@@ -112,7 +112,7 @@ in_held n (q ∷ qs) i =
     cond_both (eqb q.number n) _ _ (λ o. (x : Inquiry) × (o ≡ Some x)) (λ e. (q, refl))
     (λ e. in_held n qs (⊎_elim (λ is. absurd (eqb-false q.number n e (sym is))) (λ j. j) i))
 
-pub all_in : {X : Type 0} (P : X → Type 0) (xs : List X) (x : X) → All P xs → In x xs → P x
+pub all_in : {X : Type 0} (P : X → Type 0) (xs : List X) (x : X) → AllByRecursion P xs → In x xs → P x
 all_in P [] x a i = elim i [ ]
 all_in P (y ∷ xs) x a (inl e) = subst P (sym e) a.0
 all_in P (y ∷ xs) x a (inr i) = all_in P xs x a.1 i

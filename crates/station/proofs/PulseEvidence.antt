@@ -1,6 +1,6 @@
 -- The evidence of each inquiry is kept through a pulse.
 use Rattle.std.proofs.Common.{◌≡◌, ℕ, Bool, true, false, List, [], ◌∷◌, ◌++◌, Some, None, Option, sym, refl, ap, ◌∙◌, subst, inl, inr, ⊎_elim, append_assoc, arith}
-use Rattle.std.specs.List.{AllByRecursion as All}
+use Rattle.std.specs.List.{AllByRecursion}
 use Rattle.std.proofs.lemmas.Bool.{cond_both, cond-true, cond-false, cases_Bool}
 use Rattle.frames.specs.Finding.{frame}
 use Rattle.lines.specs.Meaning.{Meaning}
@@ -19,10 +19,10 @@ use Rattle.station.proofs.Evidence.{Copied, Rests, Evidence, rests_map, read_on,
 
 -- what holds of each inquiry, where the first that passes a test changes
 pub change_all : (passes : Stage → Bool) (f : Inquiry → Inquiry) (P Q : Inquiry → Type 0) (qs : List Inquiry) → ((q : Inquiry) → P q → Q q)
-    → ((q : Inquiry) → first passes qs ≡ Some q → P q → Q (f q)) → All P qs → All Q (change passes f qs)
+    → ((q : Inquiry) → first passes qs ≡ Some q → P q → Q (f q)) → AllByRecursion P qs → AllByRecursion Q (change passes f qs)
 change_all passes f P Q [] keep move a = tt
 change_all passes f P Q (q ∷ qs) keep move a =
-    cond_both (passes q.stage) _ _ (λ l. All Q l) (λ e. (move q (cond-true _ _ _ e) a.0, all_map keep qs a.1))
+    cond_both (passes q.stage) _ _ (λ l. AllByRecursion Q l) (λ e. (move q (cond-true _ _ _ e) a.0, all_map keep qs a.1))
     (λ e. (keep q a.0, change_all passes f P Q qs keep (λ x is. move x (cond-false _ _ _ e ∙ is)) a.1))
 
 uncounted : (b : Bool) (now : Stage) (n : ℕ) → b ≡ false → counted b now n ≡ n
@@ -103,11 +103,11 @@ module _ (h : History) (b s : Station) (line line_after : Meaning) (run : Run h 
   ticks_known q x =
       restaged q _ x (tick_rests (λ d. WasRead 6 (h ▸ pulses line line_after) (slip_of b.mark q.number) d) q p.findings (answered_now q x) q.stage x.rests)
 
-  begins_known : (o : Option Inquiry) (qs : List Inquiry) → All Known qs → All Known (begins_unless o qs)
+  begins_known : (o : Option Inquiry) (qs : List Inquiry) → AllByRecursion Known qs → AllByRecursion Known (begins_unless o qs)
   begins_known (Some q) qs a = a
   begins_known None qs a = change_all waits_still begun Known Known qs (λ q x. x) (λ q is x. restaged q (due 1) x tt) a
 
-  three_known : All Known b.places → All Known (up_to_step_three p.findings b.places)
+  three_known : AllByRecursion Known b.places → AllByRecursion Known (up_to_step_three p.findings b.places)
   three_known a =
       let one = change_all under_way (heard p.findings) Known Known b.places (λ q x. x) (λ q is x. hears_known q x) a in
       let two = change_all under_way ticked Known Known (hears p.findings b.places) (λ q x. x) (λ q is x. ticks_known q x) one in
@@ -160,12 +160,12 @@ module _ (h : History) (b s : Station) (line line_after : Meaning) (run : Run h 
         rests = opened_rests (λ d. WasRead 6 (h ▸ pulses line line_after) (slip_of b.mark q.number) d) space q.copies q.cmd q.stage x.rests;
       }
 
-  pub pulse_evidence : All (λ q. Evidence h h (slip_of b.mark q.number) q) b.places
-      → All (λ q. Evidence (h ▸ pulses line line_after) (h ▸ pulses line line_after) (slip_of s.mark q.number) q) s.places
+  pub pulse_evidence : AllByRecursion (λ q. Evidence h h (slip_of b.mark q.number) q) b.places
+      → AllByRecursion (λ q. Evidence (h ▸ pulses line line_after) (h ▸ pulses line line_after) (slip_of s.mark q.number) q) s.places
   unfolding Known Proved
   pulse_evidence a =
       let out = replies line.capacity p.findings line.outgoing in
       let known = three_known (all_map start b.places a) in
       let final = change_all is_due (tries line.capacity out) Known Proved (up_to_step_three p.findings b.places) finish tries_proved known in
       let P : ℕ → Inquiry → Type 0 = λ m q. Evidence (h ▸ pulses line line_after) (h ▸ pulses line line_after) (slip_of m q.number) q in
-      subst (λ m. All (P m) s.places) (sym p.mark) (subst (All (P b.mark)) (sym p.places) final)
+      subst (λ m. AllByRecursion (P m) s.places) (sym p.mark) (subst (AllByRecursion (P b.mark)) (sym p.places) final)

@@ -1,6 +1,6 @@
 -- The list of inquiries stays in order through a pulse: those that have ended, one under way, those that wait.
 use Rattle.std.proofs.Common.{◌≡◌, ℕ, true, false, leb, ◌⊎◌, List, [], ◌∷◌, ◌++◌, Some, None, Option, sym, refl, ap, ◌∙◌, inl, inr, ⊎_elim, append_assoc, append-nil}
-use Rattle.std.specs.List.{AllByRecursion as All}
+use Rattle.std.specs.List.{AllByRecursion}
 use Rattle.std.proofs.lemmas.Bool.{cond_both}
 use Rattle.frames.specs.Finding.{Found}
 use Rattle.station.specs.Inquiries.{Stage, waiting, due, acknowledging, answering, receiving, ended, Inquiry, waits_still, has_ended, under_way, is_due}
@@ -12,14 +12,14 @@ use Rattle.station.proofs.Turns.{Over, Unbegun, all_join, clash, tries, moved, s
 -- one that is under way or next to begin, then those that wait
 abbrev pub Queue : List Inquiry → Type 0
 Queue [] = Unit {0}
-Queue (q ∷ more) = ((under_way q.stage ≡ true) ⊎ Unbegun q) × All Unbegun more
+Queue (q ∷ more) = ((under_way q.stage ≡ true) ⊎ Unbegun q) × AllByRecursion Unbegun more
 
 -- ended ones first, then the queue
 pub record Orderly (qs : List Inquiry) : Type 0 where
   pub past : List Inquiry
   pub queue : List Inquiry
   pub split : qs ≡ past ++ queue
-  pub over : All Over past
+  pub over : AllByRecursion Over past
   pub queued : Queue queue
 
 fails_not_waiting : (k : ℕ) {now : Stage} → FailsAt k now → waits_still now ≡ false
@@ -83,23 +83,23 @@ opened_under_way (ended end) e = e
 -- what one pulse makes of the ended ones and the queue, and which attempt is due in it
 pub data Moves (fs : List (ℕ × Found)) (capacity : ℕ) (outgoing : List ℕ) (es queue after : List Inquiry) (attempt : Option Inquiry) : Type 0 where
   rests : queue ≡ [] → after ≡ es → attempt ≡ None → Moves fs capacity outgoing es queue after attempt
-  starts : (q : Inquiry) (more : List Inquiry) → queue ≡ q ∷ more → Unbegun q → All Unbegun more
+  starts : (q : Inquiry) (more : List Inquiry) → queue ≡ q ∷ more → Unbegun q → AllByRecursion Unbegun more
       → after ≡ es ++ (tries capacity outgoing (begun q) ∷ more) → attempt ≡ Some (begun q) → Moves fs capacity outgoing es queue after attempt
-  continues : (q : Inquiry) (more : List Inquiry) → queue ≡ q ∷ more → under_way q.stage ≡ true → All Unbegun more
+  continues : (q : Inquiry) (more : List Inquiry) → queue ≡ q ∷ more → under_way q.stage ≡ true → AllByRecursion Unbegun more
       → under_way (moved fs q).stage ≡ true → after ≡ es ++ (tries capacity outgoing (moved fs q) ∷ more) → attempt ≡ if_due (moved fs q)
       → Moves fs capacity outgoing es queue after attempt
   finishes : (q : Inquiry) → queue ≡ q ∷ [] → under_way q.stage ≡ true
       → has_ended (moved fs q).stage ≡ true → after ≡ es ++ (moved fs q ∷ []) → attempt ≡ None → Moves fs capacity outgoing es queue after attempt
   hands_over : (q next : Inquiry) (more : List Inquiry) → queue ≡ q ∷ (next ∷ more) → under_way q.stage ≡ true
-      → All Unbegun (next ∷ more) → has_ended (moved fs q).stage ≡ true
+      → AllByRecursion Unbegun (next ∷ more) → has_ended (moved fs q).stage ≡ true
       → after ≡ (es ++ (moved fs q ∷ [])) ++ (tries capacity outgoing (begun next) ∷ more) → attempt ≡ Some (begun next)
       → Moves fs capacity outgoing es queue after attempt
 
-pub one_more : (es : List Inquiry) (q : Inquiry) → All Over es → has_ended q.stage ≡ true → All Over (es ++ (q ∷ []))
+pub one_more : (es : List Inquiry) (q : Inquiry) → AllByRecursion Over es → has_ended q.stage ≡ true → AllByRecursion Over (es ++ (q ∷ []))
 one_more es q over e = all_join Over es (q ∷ []) over (e, tt)
 
 module _ (fs : List (ℕ × Found)) (capacity : ℕ) (outgoing : List ℕ) where
-  ends : (es : List Inquiry) (q : Inquiry) (more : List Inquiry) → All Over es → under_way q.stage ≡ true → All Unbegun more → has_ended (moved fs q).stage ≡ true
+  ends : (es : List Inquiry) (q : Inquiry) (more : List Inquiry) → AllByRecursion Over es → under_way q.stage ≡ true → AllByRecursion Unbegun more → has_ended (moved fs q).stage ≡ true
       → Moves fs capacity outgoing es (q ∷ more) (attempts capacity outgoing (up_to_step_three fs (es ++ (q ∷ more)))) (first is_due (up_to_step_three fs (es ++ (q ∷ more))))
   ends es q [] over way wait done =
       let three = ends_last fs es over q done in
@@ -112,7 +112,7 @@ module _ (fs : List (ℕ × Found)) (capacity : ℕ) (outgoing : List ℕ) where
       (ap (attempts capacity outgoing) three ∙ attempt_at capacity outgoing (es ++ (moved fs q ∷ [])) (begun next) more both wait.1)
       (ap (first is_due) three ∙ due_at (es ++ (moved fs q ∷ [])) (begun next) more both wait.1)
 
-  works : (es : List Inquiry) (q : Inquiry) (more : List Inquiry) → All Over es → (under_way q.stage ≡ true) ⊎ Unbegun q → All Unbegun more
+  works : (es : List Inquiry) (q : Inquiry) (more : List Inquiry) → AllByRecursion Over es → (under_way q.stage ≡ true) ⊎ Unbegun q → AllByRecursion Unbegun more
       → Moves fs capacity outgoing es (q ∷ more) (attempts capacity outgoing (up_to_step_three fs (es ++ (q ∷ more)))) (first is_due (up_to_step_three fs (es ++ (q ∷ more))))
   works es q more over (inr unbegun) wait =
       let three = begins_now fs es over q more wait (waits_on fs q unbegun) in
@@ -128,7 +128,7 @@ module _ (fs : List (ℕ × Found)) (capacity : ℕ) (outgoing : List ℕ) where
       (λ done. ends es q more over way wait done)
       (moves_on fs q way)
 
-  pub pulse_moves : (es queue : List Inquiry) → All Over es → Queue queue
+  pub pulse_moves : (es queue : List Inquiry) → AllByRecursion Over es → Queue queue
       → Moves fs capacity outgoing es queue (attempts capacity outgoing (up_to_step_three fs (es ++ queue))) (first is_due (up_to_step_three fs (es ++ queue)))
   pulse_moves es [] over queued =
       let three = ap (up_to_step_three fs) (append-nil es) ∙ still_over fs es over in
@@ -137,7 +137,7 @@ module _ (fs : List (ℕ × Found)) (capacity : ℕ) (outgoing : List ℕ) where
   pulse_moves es (q ∷ more) over queued = works es q more over queued.0 queued.1
 
   -- the order is kept
-  pub moves_orderly : {es queue after : List Inquiry} {attempt : Option Inquiry} → All Over es → Moves fs capacity outgoing es queue after attempt → Orderly after
+  pub moves_orderly : {es queue after : List Inquiry} {attempt : Option Inquiry} → AllByRecursion Over es → Moves fs capacity outgoing es queue after attempt → Orderly after
   moves_orderly {es} over (rests e f a) = record { past = es; queue = []; split = f ∙ sym (append-nil es); over = over; queued = tt }
   moves_orderly {es} over (starts q more e unbegun wait f a) =
       record { past = es; queue = tries capacity outgoing (begun q) ∷ more; split = f; over = over; queued = (inl refl, wait) }

@@ -1,6 +1,6 @@
 -- The books are kept through every call, and so requests go out in the order lodged.
 use Rattle.std.proofs.Common.{◌≡◌, ℕ, ◌≤◌, false, List, [], ◌∷◌, ◌++◌, map, length, Some, None, Ok, Err, Option, Result, sym, refl, ap, ◌∙◌, subst, inl, inr, append_assoc, append-nil, arith}
-use Rattle.std.specs.List.{AllByRecursion as All}
+use Rattle.std.specs.List.{AllByRecursion}
 use Rattle.station.specs.declared.refusal.Refusal.{Refusal}
 use Rattle.station.specs.Commands.{request_cause}
 use Rattle.station.specs.Inquiries.{Outcome, Inquiry, Frame, has_ended}
@@ -143,7 +143,7 @@ books_of (made m n) s e =
     })
 books_of (h ▸ e) s (b, run, step) = step_books h b s e step (books_of h b run)
 
-few_queued : (mark : ℕ) (qs : List Inquiry) → All Sound qs → All (λ t. t.copies ≤ 4) (tallies mark qs)
+few_queued : (mark : ℕ) (qs : List Inquiry) → AllByRecursion Sound qs → AllByRecursion (λ t. t.copies ≤ 4) (tallies mark qs)
 few_queued mark [] a = tt
 few_queued mark (q ∷ qs) a = (at_most_four q.stage q.copies a.0.0, few_queued mark qs a.1)
 

@@ -1,6 +1,6 @@
 -- No inquiry is given up untried: the attempts of each, put or without space.
 use Rattle.std.proofs.Common.{◌≡◌, ℕ, ◌+◌, Bool, true, List, [], ◌∷◌, length, Some, None, Ok, Err, Option, Result, sym, refl, ap, ◌∙◌, subst, inl, inr, ⊎_elim, arith}
-use Rattle.std.specs.List.{AllByRecursion as All}
+use Rattle.std.specs.List.{AllByRecursion}
 use Rattle.std.proofs.lemmas.Bool.{cond_both, cond-false, leb-false}
 use Rattle.lines.specs.Meaning.{Meaning}
 use Rattle.station.specs.declared.refusal.Refusal.{Refusal}
@@ -40,7 +40,7 @@ first_passes passes (x ∷ qs) q e =
 
 -- the attempts of each inquiry held
 abbrev AllTried : History → ℕ → List Inquiry → Type 0
-AllTried h mark qs = All (λ q. Tried h (slip_of mark q.number) q) qs
+AllTried h mark qs = AllByRecursion (λ q. Tried h (slip_of mark q.number) q) qs
 
 module _ (h : History) (b s : Station) (line line_after : Meaning) (p : Pulsed b line s line_after) where
   Before : Inquiry → Type 0
@@ -49,14 +49,14 @@ module _ (h : History) (b s : Station) (line line_after : Meaning) (p : Pulsed b
   After : Inquiry → Type 0
   After q = Tried (h ▸ pulses line line_after) (slip_of b.mark q.number) q
 
-  begins_tried : (o : Option Inquiry) (qs : List Inquiry) → All Before qs → All Before (begins_unless o qs)
+  begins_tried : (o : Option Inquiry) (qs : List Inquiry) → AllByRecursion Before qs → AllByRecursion Before (begins_unless o qs)
   unfolding Before
   begins_tried (Some q) qs a = a
   begins_tried None qs a =
       change_all waits_still begun Before Before qs (λ q x. x)
       (λ q is x. record { lacking = x.lacking; lacked = x.lacked; balance = begun_balance q.copies x.lacking q.stage (first_passes waits_still qs q is) x.balance }) a
 
-  three_tried : All Before b.places → All Before (up_to_step_three p.findings b.places)
+  three_tried : AllByRecursion Before b.places → AllByRecursion Before (up_to_step_three p.findings b.places)
   unfolding Before
   three_tried a =
       let fs = p.findings in

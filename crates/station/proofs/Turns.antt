@@ -1,6 +1,6 @@
 -- What a pulse does to the list of inquiries: the first unfinished one moves, and where it ends the next begins.
 use Rattle.std.proofs.Common.{◌≡◌, ℕ, Bool, true, false, cond, List, [], ◌∷◌, ◌++◌, Some, None, Option, sym, refl, ap, ◌∙◌, ⊎_elim, arith}
-use Rattle.std.specs.List.{AllByRecursion as All}
+use Rattle.std.specs.List.{AllByRecursion}
 use Rattle.std.proofs.lemmas.Bool.{cond-true, cond-false, cases_Bool}
 use Rattle.frames.specs.Finding.{Found, frame, dropped}
 use Rattle.station.specs.Inquiries.{Stage, waiting, due, acknowledging, answering, receiving, ended, Inquiry, written, own_frame, at_stage, waits_still, has_ended, under_way, is_due}
@@ -19,11 +19,11 @@ Unbegun q = (q.stage ≡ waiting) × (q.copies ≡ 0)
 abbrev Fails : (Stage → Bool) → Inquiry → Type 0
 Fails passes q = passes q.stage ≡ false
 
-pub all_map : {X : Type 0} {P Q : X → Type 0} → ((x : X) → P x → Q x) → (xs : List X) → All P xs → All Q xs
+pub all_map : {X : Type 0} {P Q : X → Type 0} → ((x : X) → P x → Q x) → (xs : List X) → AllByRecursion P xs → AllByRecursion Q xs
 all_map f [] a = tt
 all_map f (x ∷ xs) a = (f x a.0, all_map f xs a.1)
 
-pub all_join : {X : Type 0} (P : X → Type 0) (xs ys : List X) → All P xs → All P ys → All P (xs ++ ys)
+pub all_join : {X : Type 0} (P : X → Type 0) (xs ys : List X) → AllByRecursion P xs → AllByRecursion P ys → AllByRecursion P (xs ++ ys)
 all_join P [] ys a b = b
 all_join P (x ∷ xs) ys a b = (a.0, all_join P xs ys a.1 b)
 
@@ -38,24 +38,24 @@ over_fails passes f (answering left) e = clash e
 over_fails passes f (receiving left) e = clash e
 over_fails passes f (ended end) e = f end
 
-change_none : (passes : Stage → Bool) (f : Inquiry → Inquiry) (qs : List Inquiry) → All (Fails passes) qs → change passes f qs ≡ qs
+change_none : (passes : Stage → Bool) (f : Inquiry → Inquiry) (qs : List Inquiry) → AllByRecursion (Fails passes) qs → change passes f qs ≡ qs
 change_none passes f [] a = refl
 change_none passes f (q ∷ qs) a = cond-false _ _ _ a.0 ∙ ap (λ l. q ∷ l) (change_none passes f qs a.1)
 
-change_behind : (passes : Stage → Bool) (f : Inquiry → Inquiry) (qs more : List Inquiry) → All (Fails passes) qs → change passes f (qs ++ more) ≡ qs ++ change passes f more
+change_behind : (passes : Stage → Bool) (f : Inquiry → Inquiry) (qs more : List Inquiry) → AllByRecursion (Fails passes) qs → change passes f (qs ++ more) ≡ qs ++ change passes f more
 change_behind passes f [] more a = refl
 change_behind passes f (q ∷ qs) more a = cond-false _ _ _ a.0 ∙ ap (λ l. q ∷ l) (change_behind passes f qs more a.1)
 
-pub first_none : (passes : Stage → Bool) (qs : List Inquiry) → All (Fails passes) qs → first passes qs ≡ None
+pub first_none : (passes : Stage → Bool) (qs : List Inquiry) → AllByRecursion (Fails passes) qs → first passes qs ≡ None
 first_none passes [] a = refl
 first_none passes (q ∷ qs) a = cond-false _ _ _ a.0 ∙ first_none passes qs a.1
 
-pub first_behind : (passes : Stage → Bool) (qs more : List Inquiry) → All (Fails passes) qs → first passes (qs ++ more) ≡ first passes more
+pub first_behind : (passes : Stage → Bool) (qs more : List Inquiry) → AllByRecursion (Fails passes) qs → first passes (qs ++ more) ≡ first passes more
 first_behind passes [] more a = refl
 first_behind passes (q ∷ qs) more a = cond-false _ _ _ a.0 ∙ first_behind passes qs more a.1
 
 -- one inquiry changes, if the others fail the test and the change leaves it alone where it fails too
-change_one : (passes : Stage → Bool) (f : Inquiry → Inquiry) (qs : List Inquiry) (q : Inquiry) (more : List Inquiry) → All (Fails passes) qs → All (Fails passes) more
+change_one : (passes : Stage → Bool) (f : Inquiry → Inquiry) (qs : List Inquiry) (q : Inquiry) (more : List Inquiry) → AllByRecursion (Fails passes) qs → AllByRecursion (Fails passes) more
     → (passes q.stage ≡ false → f q ≡ q) → change passes f (qs ++ (q ∷ more)) ≡ qs ++ (f q ∷ more)
 change_one passes f qs q more a b alone =
     change_behind passes f qs (q ∷ more) a
@@ -115,17 +115,17 @@ attempted_alone b q e i =
 unbegun_fails : (passes : Stage → Bool) → passes waiting ≡ false → (q : Inquiry) → Unbegun q → Fails passes q
 unbegun_fails passes f q (e, n) = ap passes e ∙ f
 
-pub overs_fail : (passes : Stage → Bool) → ((e : _) → passes (ended e) ≡ false) → (qs : List Inquiry) → All Over qs → All (Fails passes) qs
+pub overs_fail : (passes : Stage → Bool) → ((e : _) → passes (ended e) ≡ false) → (qs : List Inquiry) → AllByRecursion Over qs → AllByRecursion (Fails passes) qs
 overs_fail passes f qs = all_map (λ q. over_fails passes f q.stage) qs
 
-pub unbegun_fail : (passes : Stage → Bool) → passes waiting ≡ false → (qs : List Inquiry) → All Unbegun qs → All (Fails passes) qs
+pub unbegun_fail : (passes : Stage → Bool) → passes waiting ≡ false → (qs : List Inquiry) → AllByRecursion Unbegun qs → AllByRecursion (Fails passes) qs
 unbegun_fail passes f qs = all_map (unbegun_fails passes f) qs
 
 -- what has become of an inquiry after steps 1 and 2
 abbrev pub moved : List (ℕ × Found) → Inquiry → Inquiry
 moved fs q = ticked (heard fs q)
 
-module _ (fs : List (ℕ × Found)) (qs : List Inquiry) (over : All Over qs) where
+module _ (fs : List (ℕ × Found)) (qs : List Inquiry) (over : AllByRecursion Over qs) where
   -- nothing unfinished is left: nothing moves
   pub still_over : up_to_step_three fs qs ≡ qs
   still_over =
@@ -134,7 +134,7 @@ module _ (fs : List (ℕ × Found)) (qs : List Inquiry) (over : All Over qs) whe
       let two = ap (change under_way ticked) one ∙ change_none under_way ticked qs none in
       ap begins two ∙ ap (λ o. begins_unless o qs) (first_none under_way qs none) ∙ change_none waits_still begun qs (overs_fail waits_still (λ e. refl) qs over)
 
-  module _ (q : Inquiry) (more : List Inquiry) (wait : All Unbegun more) where
+  module _ (q : Inquiry) (more : List Inquiry) (wait : AllByRecursion Unbegun more) where
     two_steps : ends_periods (hears fs (qs ++ (q ∷ more))) ≡ qs ++ (moved fs q ∷ more)
     two_steps =
         let none = overs_fail under_way (λ e. refl) qs over in
@@ -166,7 +166,7 @@ module _ (fs : List (ℕ × Found)) (qs : List Inquiry) (over : All Over qs) whe
       ∙ change_none waits_still begun (qs ++ (moved fs q ∷ [])) (all_join (Fails waits_still) qs _ (overs_fail waits_still (λ e. refl) qs over) (over_fails waits_still (λ e. refl) (moved fs q).stage e, tt))
 
   -- it has ended, and the next begins
-  pub ends_next : (q next : Inquiry) (more : List Inquiry) → All Unbegun (next ∷ more) → has_ended (moved fs q).stage ≡ true
+  pub ends_next : (q next : Inquiry) (more : List Inquiry) → AllByRecursion Unbegun (next ∷ more) → has_ended (moved fs q).stage ≡ true
       → up_to_step_three fs (qs ++ (q ∷ (next ∷ more))) ≡ qs ++ (moved fs q ∷ (begun next ∷ more))
   ends_next q next more wait e =
       ap begins (two_steps q (next ∷ more) wait)
@@ -178,16 +178,16 @@ module _ (fs : List (ℕ × Found)) (qs : List Inquiry) (over : All Over qs) whe
 abbrev pub if_due : Inquiry → Option Inquiry
 if_due q = cond (is_due q.stage) (Some q) None
 
-pub attempt_at : (capacity : ℕ) (outgoing : List ℕ) (qs : List Inquiry) (q : Inquiry) (more : List Inquiry) → All Over qs → All Unbegun more
+pub attempt_at : (capacity : ℕ) (outgoing : List ℕ) (qs : List Inquiry) (q : Inquiry) (more : List Inquiry) → AllByRecursion Over qs → AllByRecursion Unbegun more
     → attempts capacity outgoing (qs ++ (q ∷ more)) ≡ qs ++ (tries capacity outgoing q ∷ more)
 attempt_at capacity outgoing qs q more over wait =
     change_one is_due (tries capacity outgoing) qs q more (overs_fail is_due (λ e. refl) qs over) (unbegun_fail is_due refl more wait)
     (attempted_alone (has_space capacity outgoing (written (own_frame q))) q)
 
-pub due_at : (qs : List Inquiry) (q : Inquiry) (more : List Inquiry) → All Over qs → All Unbegun more → first is_due (qs ++ (q ∷ more)) ≡ if_due q
+pub due_at : (qs : List Inquiry) (q : Inquiry) (more : List Inquiry) → AllByRecursion Over qs → AllByRecursion Unbegun more → first is_due (qs ++ (q ∷ more)) ≡ if_due q
 due_at qs q more over wait =
     first_behind is_due qs (q ∷ more) (overs_fail is_due (λ e. refl) qs over) ∙ ap (λ o. cond (is_due q.stage) (Some q) o) (first_none is_due more (unbegun_fail is_due refl more wait))
 
-pub attempt_none : (capacity : ℕ) (outgoing : List ℕ) (qs : List Inquiry) → All Over qs → (attempts capacity outgoing qs ≡ qs) × (first is_due qs ≡ None)
+pub attempt_none : (capacity : ℕ) (outgoing : List ℕ) (qs : List Inquiry) → AllByRecursion Over qs → (attempts capacity outgoing qs ≡ qs) × (first is_due qs ≡ None)
 attempt_none capacity outgoing qs over =
     let none = overs_fail is_due (λ e. refl) qs over in (change_none is_due (tries capacity outgoing) qs none, first_none is_due qs none)

@@ -1,6 +1,6 @@
 -- How long an inquiry still waits: the pulses left to it and to those before it, and that each call leaves no more.
 use Rattle.std.proofs.Common.{◌≡◌, ℕ, ◌+◌, ◌<◌, ◌≤◌, true, false, cond, eqb, List, [], ◌∷◌, ◌++◌, Some, None, Option, sym, refl, ap, ◌∙◌, subst, ⊎_elim, arith}
-use Rattle.std.specs.List.{AllByRecursion as All}
+use Rattle.std.specs.List.{AllByRecursion}
 use Rattle.std.proofs.lemmas.Bool.{cond_both, cond-true, cond-false, eqb-true, eqb-false, eq-eqb, ne_eqb, cases_Bool, cases_eq}
 use Rattle.frames.specs.Finding.{Found}
 use Rattle.station.specs.Inquiries.{Stage, Inquiry, has_ended, under_way}
@@ -36,21 +36,21 @@ abbrev Apart : ℕ → Inquiry → Type 0
 Apart n q = q.number ≡ n → ⊥
 
 -- an inquiry that is unfinished stands behind those that have ended
-past_apart : (n : ℕ) (es rest : List Inquiry) → All Over es → Open n (es ++ rest) → All (Apart n) es × Open n rest
+past_apart : (n : ℕ) (es rest : List Inquiry) → AllByRecursion Over es → Open n (es ++ rest) → AllByRecursion (Apart n) es × Open n rest
 past_apart n [] rest over is_open = (tt, is_open)
 past_apart n (e ∷ es) rest over (q, held, still) =
-    cond_both (eqb e.number n) _ _ (λ o. o ≡ Some q → All (Apart n) (e ∷ es) × Open n rest)
+    cond_both (eqb e.number n) _ _ (λ o. o ≡ Some q → AllByRecursion (Apart n) (e ∷ es) × Open n rest)
     (λ t is. let same : e ≡ q = cc in clash (sym still ∙ ap (λ x. has_ended x.stage) (sym same) ∙ over.0))
     (λ t is. let deeper = past_apart n es rest over.1 (q, is, still) in ((eqb-false e.number n t, deeper.0), deeper.1))
     held
 
-sum_past : (n : ℕ) (es rest : List Inquiry) → All Over es → All (Apart n) es → sum_to n (es ++ rest) ≡ sum_to n rest
+sum_past : (n : ℕ) (es rest : List Inquiry) → AllByRecursion Over es → AllByRecursion (Apart n) es → sum_to n (es ++ rest) ≡ sum_to n rest
 sum_past n [] rest over apart = refl
 sum_past n (e ∷ es) rest over apart =
     let tail = cond-false (eqb e.number n) 0 (sum_to n (es ++ rest)) (ne_eqb e.number n apart.0) in
     omega (arith, ended_cost e.stage over.0, tail, sum_past n es rest over.1 apart.1)
 
-open_past : (n : ℕ) (es rest : List Inquiry) → All (Apart n) es → Open n rest → Open n (es ++ rest)
+open_past : (n : ℕ) (es rest : List Inquiry) → AllByRecursion (Apart n) es → Open n rest → Open n (es ++ rest)
 open_past n [] rest apart is_open = is_open
 open_past n (e ∷ es) rest apart is_open =
     let deeper = open_past n es rest apart.1 is_open in (deeper.0, cond-false _ _ _ (ne_eqb e.number n apart.0) ∙ deeper.1, deeper.2)
@@ -63,13 +63,13 @@ open_head n q new more same still (x, held, is_open) =
     (λ t is. (x, cond-false _ _ _ (ap (λ m. eqb m n) (sym same) ∙ t) ∙ is, is_open))
     held
 
-over_none : (n : ℕ) (es : List Inquiry) → All Over es → Open n es → ⊥
+over_none : (n : ℕ) (es : List Inquiry) → AllByRecursion Over es → Open n es → ⊥
 over_none n es over (q, held, still) = clash (sym still ∙ all_in Over es q over (held_number n es q held).2)
 
 not_over : (now : Stage) → under_way now ≡ true → has_ended now ≡ false
 not_over now e = ⊎_elim (λ over. clash (sym (over_fails under_way (λ end. refl) now over) ∙ e)) (λ f. f) (cases_Bool (has_ended now))
 
-first_way : (es : List Inquiry) (q : Inquiry) (more : List Inquiry) → All Over es → under_way q.stage ≡ true → first under_way (es ++ (q ∷ more)) ≡ Some q
+first_way : (es : List Inquiry) (q : Inquiry) (more : List Inquiry) → AllByRecursion Over es → under_way q.stage ≡ true → first under_way (es ++ (q ∷ more)) ≡ Some q
 first_way es q more over way = first_behind under_way es (q ∷ more) (overs_fail under_way (λ e. refl) es over) ∙ cond-true _ _ _ way
 
 -- unfinished before too, with a pulse more to wait
@@ -78,7 +78,7 @@ WaitsLess n es queue after = Open n (es ++ queue) × (wait_of n after + 1 ≤ wa
 
 -- a pulse leaves one pulse less, and makes nothing unfinished
 pub pulse_waits : (n : ℕ) (fs : List (ℕ × Found)) (capacity : ℕ) (outgoing : List ℕ) {es queue after : List Inquiry} {attempt : Option Inquiry}
-    → All Over es → Moves fs capacity outgoing es queue after attempt → Open n after → Open n (es ++ queue) × (wait_of n after + 1 ≤ wait_of n (es ++ queue))
+    → AllByRecursion Over es → Moves fs capacity outgoing es queue after attempt → Open n after → Open n (es ++ queue) × (wait_of n after + 1 ≤ wait_of n (es ++ queue))
 pulse_waits n fs capacity outgoing {es} {queue} {after} over (rests e f a) is_open = absurd (over_none n es over (subst (Open n) f is_open))
 pulse_waits n fs capacity outgoing {es} {queue} {after} over (finishes q e way done f a) is_open =
     absurd (over_none n (es ++ (moved fs q ∷ [])) (one_more es (moved fs q) over done) (subst (Open n) f is_open))

@@ -1,6 +1,6 @@
 -- What holds of every history of a station, in terms of calls, slips, pulses, frames, bytes and outcomes.
 use Rattle.std.specs.Prelude.{◌≡◌, ℕ, ◌<◌, ◌≤◌, Bool, true, cond, ◌||◌, ◌⊎◌, List, [], ◌∷◌, ◌++◌, map, length, take, replicate, Ok, Err, Result, ◌≢◌, slice_index}
-use Rattle.std.specs.List.{AllByRecursion as All}
+use Rattle.std.specs.List.{AllByRecursion}
 use Rattle.frames.specs.Finding.{Found, frame}
 use Rattle.frames.specs.Promises.{Reading}
 use Rattle.lines.specs.Meaning.{Meaning}
@@ -130,7 +130,7 @@ pub record SendsInOrder (most : ℕ) (whole : History) : Type 0 where
   pub tally : List Tally
   pub all_lodged : lodgings whole ≡ map (λ t. t.lodging) tally
   pub in_order : requests frames ≡ all_copies tally
-  pub at_most : All (λ t. t.copies ≤ most) tally
+  pub at_most : AllByRecursion (λ t. t.copies ≤ most) tally
   pub counted : (slip : Slip) (outcome : Outcome) → Handed slip outcome whole
       → (t : Tally) × In t tally × (t.lodging.slip ≡ slip) × (t.copies ≡ outcome.copies)
 
