@@ -58,9 +58,13 @@ def spelled(name):
 
 # port.py gave a local name the capital of a type.
 SPECIAL = {"Quiet-all": "quiet_all"}
+# A type that port.py spelled as a library's function of the same name.
+TYPES = {"Goes_on": "GoesOn"}
 
 
 def turned(text, names):
+    for old, new in TYPES.items():
+        text = re.sub(rf"\b{old}\b", new, text)
     return TOKEN.sub(lambda m: SPECIAL.get(m[0]) or (spelled(m[0]) if m[0] in names else m[0]), text)
 
 

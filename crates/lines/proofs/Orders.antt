@@ -4,7 +4,7 @@ use Rattle.lines.specs.declared.refusal.Refusal.{Refusal}
 use Rattle.lines.specs.Faults.{followed_by}
 use Rattle.lines.specs.Queues.{FirstOut, AllIn}
 use Rattle.lines.specs.Wires.{Wired}
-use Rattle.lines.specs.Runs.{Event, takes, puts, brings, carries, Step, History, made, ◌▸◌, Run, accepted, all_bytes, brought_by, taken_by, put_by, carried_by, InOrder, Goes_on}
+use Rattle.lines.specs.Runs.{Event, takes, puts, brings, carries, Step, History, made, ◌▸◌, Run, accepted, all_bytes, brought_by, taken_by, put_by, carried_by, InOrder, GoesOn}
 
 -- All bytes of one side: those that came out, and behind them those that are held.
 record Side (all out held : List ℕ) : Type 0 where
@@ -69,5 +69,5 @@ in_order (made incoming outgoing) wire run = record { inward = sym (ap (λ w. w.
 in_order (history ▸ event) wire run = one_more event (in_order history run.0 run.1) run.2
 
 -- A call as the rules have it goes on with every run.
-pub goes_on : (before after : Wired) (event : Event) → Step before event after → Goes_on before event after
+pub goes_on : (before after : Wired) (event : Event) → Step before event after → GoesOn before event after
 goes_on before after event step history run = ((before, run, step), in_order (history ▸ event) after (before, run, step))

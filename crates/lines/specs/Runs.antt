@@ -74,5 +74,5 @@ pub record InOrder (history : History) (wire : Wired) : Type 0 where
   pub outward : all_bytes put_by history ≡ all_bytes carried_by history ++ wire.near.outgoing
 
 -- Whatever calls led to the wire before, this one leads on to the wire after, and the bytes are in order.
-abbrev pub Goes_on : Wired → Event → Wired → Type 0
-Goes_on before event after = (history : History) → Run history before → Run (history ▸ event) after × InOrder (history ▸ event) after
+abbrev pub GoesOn : Wired → Event → Wired → Type 0
+GoesOn before event after = (history : History) → Run history before → Run (history ▸ event) after × InOrder (history ▸ event) after

@@ -1,7 +1,7 @@
 // A wire: two rings in memory that its maker hands over, with a line at one end and its far end at the other.
 ghost use Rattle.std.specs.Prelude.{◌≡◌, ℕ, [], length};
 ghost use Rattle.lines.specs.Meaning.{Taken, Put};
-ghost use Rattle.lines.specs.Runs.{Step, Run, Goes_on, made, takes, puts};
+ghost use Rattle.lines.specs.Runs.{Step, Run, GoesOn, made, takes, puts};
 ghost use Rattle.lines.specs.Wires.{wired, near_end, near_end_within, fresh};
 
 use crate::far_end::FarEnd;
@@ -42,7 +42,7 @@ impl<'a> Line for Wire<'a> {
         ensures taken { Taken (near_end self.old) result (near_end self.new) }
         ensures fixed { (wired self.new).intake ≡ (wired self.old).intake }
         ensures step { Step (wired self.old) (takes result) (wired self.new) }
-        ensures law { Goes_on (wired self.old) (takes result) (wired self.new) }
+        ensures law { GoesOn (wired self.old) (takes result) (wired self.new) }
     {
         self.incoming.pop()
     }
@@ -51,7 +51,7 @@ impl<'a> Line for Wire<'a> {
         ensures put { Put (near_end self.old) bytes.now result (near_end self.new) }
         ensures fixed { (wired self.new).intake ≡ (wired self.old).intake }
         ensures step { Step (wired self.old) (puts bytes.now result) (wired self.new) }
-        ensures law { Goes_on (wired self.old) (puts bytes.now result) (wired self.new) }
+        ensures law { GoesOn (wired self.old) (puts bytes.now result) (wired self.new) }
     {
         self.outgoing.append(bytes)
     }

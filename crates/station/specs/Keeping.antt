@@ -14,9 +14,9 @@ pub record KeepsItsPromises (whole : History) : Type 0 where
   pub faults_are_earned : FaultsAreEarned 4 whole
 
 -- Whatever calls led to the station before, this one leads on to the station after, and every promise holds.
-abbrev pub Goes_on : Station → Event → Station → Type 0
-Goes_on before event after = (history : History) → Run history before → Run (history ▸ event) after × KeepsItsPromises (history ▸ event)
+abbrev pub GoesOn : Station → Event → Station → Type 0
+GoesOn before event after = (history : History) → Run history before → Run (history ▸ event) after × KeepsItsPromises (history ▸ event)
 
 -- A call that does what the rules say goes on so.
 abbrev pub RulesKeepThePromises : Type 0
-RulesKeepThePromises = (before : Station) (event : Event) (after : Station) → Step before event after → Goes_on before event after
+RulesKeepThePromises = (before : Station) (event : Event) (after : Station) → Step before event after → GoesOn before event after

@@ -1,5 +1,5 @@
 -- The byte goes straight behind the last, or round the end of the memory.
-use Rattle.std.proofs.Common.{◌-◌, ◌<◌, length, inl, inr, arith, length-set}
+use Rattle.std.proofs.Common.{◌<◌, length, inl, inr, arith, length-set}
 use Rattle.lines.proofs.RingBytes.{byte_added}
 use Rattle.lines.proofs.ring.Ring.push.Goals as goal
 use Rattle.lines.proofs.ring.Ring.push.Goals.{then-len-to_end, else-len-to_end}

@@ -1,5 +1,5 @@
 -- The room is the memory's length less what the ring holds.
-use Rattle.std.proofs.Common.{length, arith}
+use Rattle.std.proofs.Common.{arith}
 use Rattle.lines.proofs.RingBytes.{length_ring_bytes}
 use Rattle.lines.proofs.ring.Ring.room.Goals as goal
 

@@ -1,5 +1,5 @@
 -- The first byte of the rest, or the end of the capture.
-use Rattle.std.proofs.Common.{◌∷◌, length, get_or, sym, refl, ap, ◌∙◌, arith, ltb-false, ltb-true}
+use Rattle.std.proofs.Common.{◌∷◌, get_or, sym, refl, ap, ◌∙◌, arith, ltb-false, ltb-true}
 use Rattle.std.proofs.lemmas.List.{nil_from_length, drop_more, take_rest}
 use Rattle.lines.proofs.tape.calls.TapeLine.take.Goals as goal
 
