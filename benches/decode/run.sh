@@ -5,17 +5,17 @@ cd "$(dirname "$0")/../.."
 work=$(mktemp -d)
 trap 'rm -rf "$work"' EXIT
 runs=${RUNS:-9}
-[ -x target/bin/decode ] || rt check decode >/dev/null
+(cd crates/decode && rt run -- --help >/dev/null)
 rustc -O -C codegen-units=1 --edition 2021 -o "$work/baseline" benches/decode/baseline.rs
 python3 benches/decode/capture.py "$work/capture"
-target/bin/decode "$work/capture" > "$work/ours"
+crates/decode/out/decode "$work/capture" > "$work/ours"
 "$work/baseline" "$work/capture" > "$work/theirs"
 cmp "$work/ours" "$work/theirs"
 echo "both programs write the same $(wc -c < "$work/ours") bytes for a capture of $(wc -c < "$work/capture") bytes"
 python3 - "$runs" "$work" <<'P'
 import os, statistics, subprocess, sys, time
 runs, work = int(sys.argv[1]), sys.argv[2]
-programs = {"decode": ["target/bin/decode"], "plain Rust": [f"{work}/baseline"]}
+programs = {"decode": ["crates/decode/out/decode"], "plain Rust": [f"{work}/baseline"]}
 
 
 def peak_of(words):

@@ -27,12 +27,14 @@ mod wire_sessions;
 mod wire_subject;
 mod writing;
 
-use failure::Failure;
+use std::process::ExitCode;
 
-fn main(rt: HostRuntime) -> Result<(), Failure> {
-    let result = run::run(&rt);
-    if let Err(failure) = &result {
-        let _ = eprintln!(rt; "bench: {failure}");
+fn main(rt: HostRuntime) -> ExitCode {
+    match run::run(&rt) {
+        Ok(()) => ExitCode::SUCCESS,
+        Err(failure) => {
+            let _ = eprintln!(rt; "bench: {failure}");
+            ExitCode::FAILURE
+        }
     }
-    result
 }

@@ -23,7 +23,7 @@ pub fn run(rt: &HostRuntime) -> Result<(), Failure> {
 
 // Plays one session after another.
 fn play_all(rt: &HostRuntime) -> Result<(), Failure> {
-    let mut stand = Stand::new(rt);
+    let mut stand = Stand::new(rt)?;
     let mut next = play(&mut Nothing, &mut stand)?;
     for _ in 0..u64::MAX {
         match next {

@@ -16,11 +16,10 @@ pub struct Stand<'a> {
 }
 
 impl<'a> Stand<'a> {
-    pub fn new(rt: &'a HostRuntime) -> Stand<'a> {
-        Stand {
-            rt,
-            input: BufReader::new(rt.stdin()),
-            line: 0,
+    pub fn new(rt: &'a HostRuntime) -> Result<Stand<'a>, Failure> {
+        match BufReader::new(rt.alloc(), rt.stdin()) {
+            Ok(input) => Ok(Stand { rt, input, line: 0 }),
+            Err(e) => Err(Failure::Read(e)),
         }
     }
 

@@ -73,7 +73,7 @@ fn say_commands<S: Subject>(
                 stand.boxed(number)?;
                 return Ok(Stop::Box);
             }
-            Some(command) => stand.answer(answered(subject, heap, command))?,
+            Some(command) => stand.answer(answered(subject, heap, &command))?,
         }
     }
     Ok(Stop::Over(None))
@@ -83,13 +83,12 @@ fn say_commands<S: Subject>(
 fn answered<S: Subject>(
     subject: &mut S,
     heap: Global,
-    command: Command,
+    command: &Command,
 ) -> Result<String, Mistake> {
-    let answer = match &command {
+    match command {
         Command::Free(call) => answer_free(heap, call),
-        said => subject.answer(heap, said),
-    };
-    answer
+        _ => subject.answer(heap, command),
+    }
 }
 
 // What commands are said to before anything is made.

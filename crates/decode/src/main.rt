@@ -12,12 +12,14 @@ mod tally;
 mod tests;
 mod text;
 
-use failure::Failure;
+use std::process::ExitCode;
 
-fn main(rt: HostRuntime) -> Result<(), Failure> {
-    let result = run::run(&rt);
-    if let Err(failure) = &result {
-        let _ = eprintln!(rt; "decode: {failure}");
+fn main(rt: HostRuntime) -> ExitCode {
+    match run::run(&rt) {
+        Ok(()) => ExitCode::SUCCESS,
+        Err(failure) => {
+            let _ = eprintln!(rt; "decode: {failure}");
+            ExitCode::FAILURE
+        }
     }
-    result
 }

@@ -1,4 +1,4 @@
-use Rattle.std.proofs.Common.{◌≡◌, ◌*◌, length, take}
+use Rattle.std.proofs.Common.{◌≡◌, ◌*◌, take}
 use Rattle.decode.specs.Hex.{hex_text}
 use Rattle.decode.proofs.hex.write_all.Given as goal
 
