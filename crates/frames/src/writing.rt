@@ -1,6 +1,6 @@
 // Writing a frame into memory.
 ghost use Rattle.std.specs.Prelude.{◌≡◌, ◌+◌, length as long, IfOk};
-ghost use Rattle.frames.specs.Refusals.{cause as cause-of};
+ghost use Rattle.frames.specs.Refusals.{cause as cause_of};
 ghost use Rattle.frames.specs.Writing.{write_cause, Written};
 
 use super::crc::crc;
@@ -14,7 +14,7 @@ const ETX: u8 = 0x03;
 
 // Writes the frame of a command and its data to the start of the memory, and answers its length.
 pub fn write(memory: &mut [u8], cmd: u8, data: &[u8]) -> Result<usize, Refusal>
-    ensures refused { cause-of result ≡ write_cause (long «data».now) (long memory.old) }
+    ensures refused { cause_of result ≡ write_cause (long «data».now) (long memory.old) }
     ensures written { Written cmd «data».now memory.old memory.new result }
     ensures answered { IfOk result (λ n. n ≡ long «data».now + 7) }
 {

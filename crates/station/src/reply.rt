@@ -1,6 +1,6 @@
 // The replies of a station to what it finds.
 ghost use Rattle.std.specs.Prelude.{◌≡◌, Some};
-ghost use Rattle.frames.specs.Finding.{frame as a-frame};
+ghost use Rattle.frames.specs.Finding.{frame as a_frame};
 ghost use Rattle.frames.specs.Reading.{found};
 ghost use Rattle.station.specs.Controls.{frame_of};
 ghost use Rattle.station.specs.Replies.{reply_if, Replied};
@@ -13,7 +13,7 @@ use lines::line::Line;
 
 // The reply that a frame draws: none if it is a control frame, whatever its data.
 fn reply_to(cmd: u8, data: &[u8]) -> Option<Control>
-    ensures reply { frame_of result ≡ reply_if (Some (a-frame cmd «data».now)) }
+    ensures reply { frame_of result ≡ reply_if (Some (a_frame cmd «data».now)) }
 {
     match cmd {
         0x06 | 0x15 | 0x00 => None,

@@ -1,7 +1,7 @@
 // The parts of a frame.
 ghost use Rattle.std.specs.Prelude.{◌≡◌, ◌≤◌, length, IfOk};
 ghost use Rattle.frames.specs.Reading.{frame_data};
-ghost use Rattle.frames.specs.Refusals.{cause as cause-of};
+ghost use Rattle.frames.specs.Refusals.{cause as cause_of};
 ghost use Rattle.frames.specs.Writing.{data_cause};
 
 use super::super::refusal::Refusal;
@@ -22,7 +22,7 @@ impl Frame {
 
     /// The frame with this command and these data bytes; more than a frame can carry are refused.
     pub fn of(cmd: u8, data: &[u8]) -> Result<Frame, Refusal>
-        ensures refused { cause-of result ≡ data_cause (length «data».now) }
+        ensures refused { cause_of result ≡ data_cause (length «data».now) }
         ensures cmd { IfOk result (λ f. f.cmd ≡ cmd) }
         ensures bytes { IfOk result (λ f. frame_data f ≡ «data».now) }
     {

@@ -1,7 +1,7 @@
 // What the frames that are found do to an inquiry.
 ghost use Rattle.std.specs.Prelude.{◌≡◌, take};
 ghost use Rattle.std.specs.Str.{bytes_eq};
-ghost use Rattle.frames.specs.Finding.{frame as a-frame};
+ghost use Rattle.frames.specs.Finding.{frame as a_frame};
 ghost use Rattle.frames.specs.Reading.{frame_data};
 ghost use Rattle.station.specs.Inquiries.{at_stage};
 ghost use Rattle.station.specs.Exchange.{in_answer, in_radio};
@@ -36,7 +36,7 @@ fn same_address(received: &[u8], sent: &[u8]) -> bool
 impl Inquiry {
     // The stage to which a frame brings the inquiry.
     pub(crate) fn hear(&mut self, frame: &Frame)
-        ensures heard { inquiry_of self.new ≡ hears (inquiry_of self.old) (a-frame frame.now.cmd (frame_data frame.now)) }
+        ensures heard { inquiry_of self.new ≡ hears (inquiry_of self.old) (a_frame frame.now.cmd (frame_data frame.now)) }
     {
         match self.stage {
             Stage::Trying => self.hear_control(frame.cmd(), frame.data()),
@@ -49,7 +49,7 @@ impl Inquiry {
     // Control frames matter while the frame is on its way.
     fn hear_control(&mut self, cmd: u8, data: &[u8])
         requires { self.old.stage ≡ Stage.Trying }
-        ensures heard { inquiry_of self.new ≡ hears (inquiry_of self.old) (a-frame cmd «data».now) }
+        ensures heard { inquiry_of self.new ≡ hears (inquiry_of self.old) (a_frame cmd «data».now) }
     {
         if let Some(control) = Control::read(cmd, data) {
             match self.sending.hear(control) {

@@ -1,6 +1,6 @@
 // Looking an inquiry up, and changing the one that is found.
 ghost use Rattle.std.specs.Prelude.{◌≡◌, [], IfOk};
-ghost use Rattle.frames.specs.Finding.{frame as a-frame};
+ghost use Rattle.frames.specs.Finding.{frame as a_frame};
 ghost use Rattle.frames.specs.Reading.{frame_data};
 ghost use Rattle.station.specs.Stations.{begins, ends_periods};
 ghost use Rattle.station.specs.Held.{hears};
@@ -39,7 +39,7 @@ impl Places {
     // The inquiry at this place hears a frame.
     pub(crate) fn hear(&mut self, place: Option<usize>, frame: &Frame)
         requires { Within place (places_of self.old) }
-        ensures heard { places_of self.new ≡ alter_at place (λ q. hears q (a-frame frame.now.cmd (frame_data frame.now))) (places_of self.old) }
+        ensures heard { places_of self.new ≡ alter_at place (λ q. hears q (a_frame frame.now.cmd (frame_data frame.now))) (places_of self.old) }
     {
         if let Some(place) = place {
             self.inquiries[place].hear(frame);

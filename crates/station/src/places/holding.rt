@@ -1,6 +1,6 @@
 // Taking a place, and giving it back.
 ghost use Rattle.std.specs.Prelude.{◌≡◌, ◌<◌, [], ◌∷◌, ◌++◌, length, nat_le, slice_index_or};
-ghost use Rattle.station.specs.Inquiries.{Inquiry as Inquiry-by-rule};
+ghost use Rattle.station.specs.Inquiries.{Inquiry as InquiryByRule};
 ghost use Rattle.station.specs.Stations.{most_places};
 ghost use Rattle.station.specs.Held.{inquiry_of};
 ghost use Rattle.station.specs.Tables.{places_of, HoldsAt, left_out};
@@ -35,7 +35,7 @@ impl Places {
     // The inquiry at this place.
     pub(crate) fn at(&self, place: usize) -> &Inquiry
         requires { place < length (places_of self.now) }
-        ensures inquiry { (d : Inquiry-by-rule) → slice_index_or (places_of self.now) place d ≡ inquiry_of result.now }
+        ensures inquiry { (d : InquiryByRule) → slice_index_or (places_of self.now) place d ≡ inquiry_of result.now }
     {
         &self.inquiries[place]
     }

@@ -1,7 +1,7 @@
 use Rattle.std.proofs.Common.{vec_items, sym, ap, ◌∙◌, subst, arith}
 use Rattle.std.proofs.lemmas.List.{length-map}
 use Rattle.station.specs.Inquiries as rules
-use Rattle.frames.specs.Finding.{frame as a-frame}
+use Rattle.frames.specs.Finding.{frame as a_frame}
 use Rattle.frames.specs.Reading.{frame_data}
 use Rattle.station.specs.Held.{inquiry_of, hears}
 use Rattle.station.specs.Tables.{places_of, Within, alter_at}
@@ -15,7 +15,7 @@ pub returns-in-Some : goal.returns-in-Some
 returns-in-Some c =
     let p = c.args.self.now in
     let i = c.in-Some.place in
-    let f : rules.Inquiry → rules.Inquiry = λ q. hears q (a-frame c.args.frame.now.cmd (frame_data c.args.frame.now)) in
+    let f : rules.Inquiry → rules.Inquiry = λ q. hears q (a_frame c.args.frame.now.cmd (frame_data c.args.frame.now)) in
     let less = subst (λ o. Within o (places_of p)) c.in-Some.is c.requires in
     record {
       heard = altered (vec_items p.inquiries) i c.hear.new.self c.index_mut.result.now f (omega (arith, less, length-map (vec_items p.inquiries) inquiry_of))
