@@ -44,6 +44,10 @@ def own_names():
                 names.add(name)
         if not is_for_a_function(path):
             names.update(TOKEN.findall(re.sub(r"\.[\w'-]+", "", IMPORT.sub("", text))))
+    # The names under which a contract or a proof brings another one in.
+    for path in text_files("crates/*/src/**/*.rt", "crates/*/specs/**/*.antt", "crates/*/proofs/**/*.antt"):
+        for line in re.findall(r"^(?:pub |ghost )?use [^\n]*", path.read_text(), re.M):
+            names.update(re.findall(rf" as ({TOKEN.pattern})", line))
     return names - of_std
 
 
