@@ -40,7 +40,8 @@ def own_names():
         for line in IMPORT.findall(text):
             of_std.update(TOKEN.findall(line))
         for name in SIGNATURE.findall(text):
-            if TOKEN.fullmatch(name) and not (is_for_a_function(path) and ("goal." in text and GOAL.match(name))):
+            is_goal = is_for_a_function(path) and (f"goal.{name}" in text or ("goal." in text and GOAL.match(name)))
+            if TOKEN.fullmatch(name) and not is_goal:
                 names.add(name)
         if not is_for_a_function(path):
             names.update(TOKEN.findall(re.sub(r"\.[\w'-]+", "", IMPORT.sub("", text))))

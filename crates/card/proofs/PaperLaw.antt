@@ -11,7 +11,7 @@ use Rattle.card.specs.PaperCard.{fed_one, fed}
 use Rattle.card.specs.CardHistories.{History, made, ◌▸◌, Run, at_first, right_frames, FramesRead, EqualsPaperCard, Always}
 use Rattle.card.proofs.Feeding.{all_same, same_as, all_findings}
 
-pub fed_append : (kind : Kind) (now : Contents) (fs gs : List Frame) → fed channel_mode kind now (fs ++ gs) ≡ fed channel_mode kind (fed channel_mode kind now fs) gs
+fed_append : (kind : Kind) (now : Contents) (fs gs : List Frame) → fed channel_mode kind now (fs ++ gs) ≡ fed channel_mode kind (fed channel_mode kind now fs) gs
 fed_append kind now [] gs = refl
 fed_append kind now (f ∷ fs) gs = fed_append kind (fed_one channel_mode kind now f) fs gs
 
