@@ -1,79 +1,53 @@
-// Bytes and numbers as words of a script.
+// Words of a script as bytes and numbers.
 use super::mistake::{Mistake, Wanted};
-use std::alloc::Global;
+use hex::{FromHex, FromHexError};
+use std::alloc::{AllocError, Global};
+use std::iter;
 
 // The bytes that some words stand for.
-pub fn bytes_of(heap: Global, words: &[&str]) -> Result<Vec<u8>, Mistake> {
+pub fn bytes_of<'a>(heap: Global, words: &[&'a str]) -> Result<Vec<u8>, Mistake<'a>> {
     let mut bytes = Vec::new(heap);
-    for word in words {
+    for &word in words {
         match word.split_once('*') {
-            None => add_pairs(heap, word, &mut bytes)?,
-            Some((pair, count)) => add_same(heap, pair, count, &mut bytes)?,
+            None => bytes.extend_from_slice(pairs_of(heap, word)?.as_slice())?,
+            Some((pair, count)) => {
+                let byte = byte_of(pair)?;
+                bytes.extend(iter::repeat_n(byte, number_of(count)?))?;
+            }
         }
     }
     Ok(bytes)
 }
 
-// Adds a byte for every two digits of a word.
-fn add_pairs(heap: Global, word: &str, bytes: &mut Vec<u8>) -> Result<(), Mistake> {
-    for pair in word.as_bytes().chunks(2) {
-        match pair_value(pair) {
-            Some(byte) => bytes.push(byte)?,
-            None => return Err(Mistake::in_word(heap, word, Wanted::Bytes)),
-        }
-    }
-    Ok(())
-}
-
-// Adds a byte so many times over.
-fn add_same(heap: Global, pair: &str, count: &str, bytes: &mut Vec<u8>) -> Result<(), Mistake> {
-    let byte = byte_of(heap, pair)?;
-    for _ in 0..number_of(heap, count)? {
-        bytes.push(byte)?;
-    }
-    Ok(())
+// A byte for every two digits of a word.
+fn pairs_of(heap: Global, word: &str) -> Result<Vec<u8>, Mistake<'_>> {
+    hex::decode(heap, word).map_err(|e| match e {
+        FromHexError::OutOfMemory => Mistake::Memory(AllocError),
+        _ => Mistake::Word(word, Wanted::Bytes),
+    })
 }
 
 // The byte that two digits stand for.
-pub fn byte_of(heap: Global, word: &str) -> Result<u8, Mistake> {
-    match pair_value(word.as_bytes()) {
-        Some(byte) => Ok(byte),
-        None => Err(Mistake::in_word(heap, word, Wanted::Byte)),
-    }
-}
-
-// What two hexadecimal digits stand for.
-fn pair_value(pair: &[u8]) -> Option<u8> {
-    match pair {
-        [high, low] => {
-            let high = char::from(*high).to_digit(16)?;
-            let low = char::from(*low).to_digit(16)?;
-            Some((high * 16 + low) as u8)
-        }
-        _ => None,
-    }
+pub fn byte_of(word: &str) -> Result<u8, Mistake<'_>> {
+    <[u8; 1] as FromHex>::from_hex(word)
+        .map(u8::from_be_bytes)
+        .map_err(|_| Mistake::Word(word, Wanted::Byte))
 }
 
 // The mode that four digits stand for.
-pub fn mode_of(heap: Global, word: &str) -> Result<u16, Mistake> {
-    if let [a, b, c, d] = word.as_bytes()
-        && let Some(high) = pair_value(&[*a, *b])
-        && let Some(low) = pair_value(&[*c, *d])
-    {
-        return Ok(u16::from_be_bytes([high, low]));
-    }
-    Err(Mistake::in_word(heap, word, Wanted::Mode))
+pub fn mode_of(word: &str) -> Result<u16, Mistake<'_>> {
+    <[u8; 2] as FromHex>::from_hex(word)
+        .map(u16::from_be_bytes)
+        .map_err(|_| Mistake::Word(word, Wanted::Mode))
 }
 
 // The number that decimal digits stand for, from 0 to 65535.
-pub fn short_of(heap: Global, word: &str) -> Result<u16, Mistake> {
-    match word.parse::<u16>() {
-        Ok(number) => Ok(number),
-        Err(_) => Err(Mistake::in_word(heap, word, Wanted::Number)),
-    }
+pub fn short_of(word: &str) -> Result<u16, Mistake<'_>> {
+    word.parse::<u16>()
+        .map_err(|_| Mistake::Word(word, Wanted::Number))
 }
 
 // The same as a count.
-pub fn number_of(heap: Global, word: &str) -> Result<usize, Mistake> {
-    Ok(usize::from(short_of(heap, word)?))
+pub fn number_of(word: &str) -> Result<usize, Mistake<'_>> {
+    short_of(word).map(usize::from)
 }

@@ -1,75 +1,35 @@
-// The commands about stores, boards and settings.
+// The commands that are said to stores and settings.
 use super::bytes::{byte_of, bytes_of, mode_of, number_of};
-use super::command::{Command, FreeCall, Kind, Maker, SettingsCall, StoreCall};
-use super::forms::no_command;
-use super::mistake::{Mistake, Wanted};
-use std::alloc::Global;
+use super::command::{SettingsCall, StoreCall};
+use super::mistake::Mistake;
+use super::words::Words;
 
-// The command about stores, boards or settings that some words say.
-pub fn card_command_of(heap: Global, name: &str, arguments: &[&str]) -> Result<Command, Mistake> {
-    let maker = match (name, arguments) {
-        ("table", []) => Maker::Table,
-        ("image", bytes) => Maker::Image(bytes_of(heap, bytes)?),
-        ("store", bytes) => Maker::Store(bytes_of(heap, bytes)?),
-        ("settings", [kind]) => Maker::Settings(kind_of(heap, kind)?),
-        _ => return board_call_of(heap, name, arguments),
-    };
-    Ok(Command::Make(maker))
-}
-
-fn board_call_of(heap: Global, name: &str, arguments: &[&str]) -> Result<Command, Mistake> {
-    match (name, arguments) {
-        ("board", [kind]) => Ok(Command::Free(FreeCall::Board(kind_of(heap, kind)?))),
-        ("admits", [kind, mode]) => {
-            let kind = kind_of(heap, kind)?;
-            let mode = mode_of(heap, mode)?;
-            Ok(Command::Free(FreeCall::Admits(kind, mode)))
-        }
-        _ => store_call_of(heap, name, arguments),
+impl<'w, 'a> Words<'w, 'a> {
+    // What is said to a store.
+    pub fn store_call(self) -> Result<Option<StoreCall>, Mistake<'a>> {
+        Ok(Some(match (self.name, self.arguments) {
+            ("length", [number]) => StoreCall::Length(byte_of(number)?),
+            ("value", [number]) => StoreCall::Value(byte_of(number)?),
+            ("byte", [number, place]) => StoreCall::Byte {
+                number: byte_of(number)?,
+                place: number_of(place)?,
+            },
+            ("set", [number, value @ ..]) => StoreCall::Set {
+                number: byte_of(number)?,
+                value: bytes_of(self.heap, value)?,
+            },
+            ("bytes", []) => StoreCall::Bytes,
+            _ => return Ok(None),
+        }))
     }
-}
 
-fn store_call_of(heap: Global, name: &str, arguments: &[&str]) -> Result<Command, Mistake> {
-    match (name, arguments) {
-        ("length", [number]) => Ok(Command::Store(StoreCall::Length(byte_of(heap, number)?))),
-        ("value", [number]) => Ok(Command::Store(StoreCall::Value(byte_of(heap, number)?))),
-        ("byte", [number, place]) => byte_call_of(heap, number, place),
-        ("set", [number, value @ ..]) => set_call_of(heap, number, value),
-        ("bytes", []) => Ok(Command::Store(StoreCall::Bytes)),
-        _ => settings_call_of(heap, name, arguments),
-    }
-}
-
-fn byte_call_of(heap: Global, number: &str, place: &str) -> Result<Command, Mistake> {
-    let number = byte_of(heap, number)?;
-    let place = number_of(heap, place)?;
-    Ok(Command::Store(StoreCall::Byte { number, place }))
-}
-
-fn set_call_of(heap: Global, number: &str, value: &[&str]) -> Result<Command, Mistake> {
-    let number = byte_of(heap, number)?;
-    let value = bytes_of(heap, value)?;
-    Ok(Command::Store(StoreCall::Set { number, value }))
-}
-
-fn settings_call_of(heap: Global, name: &str, arguments: &[&str]) -> Result<Command, Mistake> {
-    let call = match (name, arguments) {
-        ("mode", []) => SettingsCall::Mode(None),
-        ("mode", [mode]) => SettingsCall::Mode(Some(mode_of(heap, mode)?)),
-        ("channel", []) => SettingsCall::Channel(None),
-        ("channel", [channel]) => SettingsCall::Channel(Some(byte_of(heap, channel)?)),
-        ("power", []) => SettingsCall::Power(None),
-        ("power", [power]) => SettingsCall::Power(Some(byte_of(heap, power)?)),
-        _ => return Err(no_command(heap, name)),
-    };
-    Ok(Command::Settings(call))
-}
-
-fn kind_of(heap: Global, word: &str) -> Result<Kind, Mistake> {
-    match word {
-        "25" => Ok(Kind::WaveCard25),
-        "500" => Ok(Kind::WaveCard500),
-        "915" => Ok(Kind::Waveport915),
-        _ => Err(Mistake::in_word(heap, word, Wanted::Kind)),
+    // What is said to settings.
+    pub fn settings_call(self) -> Result<Option<SettingsCall>, Mistake<'a>> {
+        Ok(Some(match (self.name, self.arguments) {
+            ("mode", _) => SettingsCall::Mode(self.optional(mode_of)?),
+            ("channel", _) => SettingsCall::Channel(self.optional(byte_of)?),
+            ("power", _) => SettingsCall::Power(self.optional(byte_of)?),
+            _ => return Ok(None),
+        }))
     }
 }

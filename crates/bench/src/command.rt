@@ -1,4 +1,5 @@
 // What a line of a script can say.
+use super::kind::Kind;
 use lines::script::Entry;
 
 #[derive(Drop)]
@@ -24,18 +25,24 @@ pub enum Maker {
     Settings(Kind),
 }
 
-// What is said to a line or to one of its ends. A count is the most bytes to go for.
+// What is said to a line. A count is the most bytes to go for; without one, all that there are.
 #[derive(Drop)]
 pub enum LineCall {
     Script(Vec<Entry>),
-    Take(usize),
+    Take(Option<usize>),
     Put(Vec<u8>),
     Space,
-    Bring(Vec<u8>),
-    Carry(usize),
-    Sent,
-    Read(usize),
+    Read(Option<usize>),
     Forget,
+    End(EndCall),
+}
+
+// What is said to one end of a line, and so to lines of one kind alone.
+#[derive(Drop)]
+pub enum EndCall {
+    Bring(Vec<u8>),
+    Carry(Option<usize>),
+    Sent,
 }
 
 // What is said to a store of parameters, which go by their numbers.
@@ -66,12 +73,4 @@ pub enum FreeCall {
     },
     Board(Kind),
     Admits(Kind, u16),
-}
-
-// A kind of board.
-#[derive(Clone, Copy)]
-pub enum Kind {
-    WaveCard25,
-    WaveCard500,
-    Waveport915,
 }

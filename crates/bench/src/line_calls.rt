@@ -1,74 +1,64 @@
-// What is said to every line, and what it says.
+// What is said to a line, and what it says.
 use super::command::LineCall;
-use super::mistake::Mistake;
+use super::mistake::{Answer, Mistake};
 use super::reading::findings;
-use super::rig::Scripted;
-use super::texts;
-use super::texts::{counted, shown};
-use frames::reader::Reader;
+use super::rig::{End, Rig, Scripted};
+use super::texts::{counted, refuse, shown};
 use lines::line::Line;
 use lines::refusal::Refusal;
-use lines::script::Entry;
-use std::alloc::Global;
+use std::alloc::{AllocError, Global};
+use std::iter;
 
-// What every line says to a call; a call on one of its ends is not for every line.
-pub fn answer_every<L: Line + Scripted>(
-    heap: Global,
-    line: &mut L,
-    reader: &mut Reader,
-    call: &LineCall,
-) -> Result<String, Mistake> {
-    match call {
-        LineCall::Script(entries) => load(heap, line, entries.as_slice()),
-        LineCall::Take(most) => shown(heap, "took", taken(heap, line, *most)?.as_slice()),
-        LineCall::Put(bytes) => put(heap, line, bytes.as_slice()),
-        LineCall::Space => counted(heap, "space", line.space()),
-        LineCall::Read(most) => findings(heap, reader, taken(heap, line, *most)?.as_slice()),
-        LineCall::Forget => forget(heap, reader),
-        LineCall::Bring(_) | LineCall::Carry(_) | LineCall::Sent => Err(Mistake::NotFor(
-            "this line",
-        )),
-    }
-}
-
-fn load<L: Scripted>(heap: Global, line: &mut L, entries: &[Entry]) -> Result<String, Mistake> {
-    match line.load_script(entries) {
-        None => Err(Mistake::NoBox),
-        Some(Ok(())) => counted(heap, "loaded", entries.len()),
-        Some(Err(refusal)) => refused(heap, refusal),
-    }
-}
-
-// Takes bytes until none waits, or as many as are asked for.
-fn taken<L: Line>(heap: Global, line: &mut L, most: usize) -> Result<Vec<u8>, Mistake> {
-    let mut bytes = Vec::new(heap);
-    for _ in 0..most {
-        match line.take() {
-            Some(byte) => bytes.push(byte)?,
-            None => break,
+impl<L: Line + Scripted, E: End<L>> Rig<L, E> {
+    pub fn answer_call(&mut self, heap: Global, call: &LineCall) -> Answer {
+        match call {
+            LineCall::Script(entries) => {
+                let loaded = self
+                    .line
+                    .load_script(entries.as_slice())
+                    .ok_or(Mistake::NoBox)?;
+                done(heap, "loaded", entries.len(), loaded)
+            }
+            LineCall::Take(most) => shown(heap, "took", self.taken(heap, *most)?.as_slice()),
+            LineCall::Put(bytes) => done(heap, "put", bytes.len(), self.line.put(bytes.as_slice())),
+            LineCall::Space => counted(heap, "space", self.line.space()),
+            LineCall::Read(most) => {
+                let bytes = self.taken(heap, *most)?;
+                findings(heap, &mut self.reader, bytes.as_slice())
+            }
+            LineCall::Forget => self.forget(heap),
+            LineCall::End(call) => self.end.answer(heap, &mut self.line, call),
         }
     }
-    Ok(bytes)
-}
 
-fn put<L: Line>(heap: Global, line: &mut L, bytes: &[u8]) -> Result<String, Mistake> {
-    match line.put(bytes) {
-        Ok(()) => counted(heap, "put", bytes.len()),
-        Err(refusal) => refused(heap, refusal),
+    fn taken(&mut self, heap: Global, most: Option<usize>) -> Result<Vec<u8>, AllocError> {
+        gathered(heap, most, || self.line.take())
+    }
+
+    fn forget(&mut self, heap: Global) -> Answer {
+        let held = self.reader.held();
+        self.reader.forget();
+        counted(heap, "forgot", held)
     }
 }
 
-fn forget(heap: Global, reader: &mut Reader) -> Result<String, Mistake> {
-    let held = reader.held();
-    reader.forget();
-    counted(heap, "forgot", held)
+// Gathers bytes until there is none, or as many as are asked for.
+pub fn gathered<F: FnMut() -> Option<u8>>(
+    heap: Global,
+    most: Option<usize>,
+    next: F,
+) -> Result<Vec<u8>, AllocError>
+    requires { (state : F) → F.pre state }
+{
+    iter::from_fn(next)
+        .take(most.unwrap_or(usize::MAX))
+        .collect(heap)
 }
 
-// What a line says that refuses.
-pub fn refused(heap: Global, refusal: Refusal) -> Result<String, Mistake> {
-    let name = match refusal {
-        Refusal::NoSpace => "NoSpace",
-        Refusal::BadScript => "BadScript",
-    };
-    texts::refused(heap, refusal.number(), name)
+// What was done with so many, or why the line refused it.
+fn done(heap: Global, word: &str, count: usize, outcome: Result<(), Refusal>) -> Answer {
+    match outcome {
+        Ok(()) => counted(heap, word, count),
+        Err(refusal) => refuse(heap, refusal.number(), refusal),
+    }
 }

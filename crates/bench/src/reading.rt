@@ -1,44 +1,48 @@
 // What a reader of frames finds in bytes of a line.
-use super::mistake::Mistake;
-use super::texts::add_bytes;
+use super::mistake::Answer;
+use super::texts::Spaced;
 use frames::finding::{Cause, Finding};
-use frames::frame::Frame;
 use frames::reader::Reader;
-use std::alloc::{AllocError, Global};
+use std::alloc::Global;
+use std::fmt;
 
 // Has a reader read a stretch whole, and says all that it finds, in one line.
-pub fn findings(heap: Global, reader: &mut Reader, stretch: &[u8]) -> Result<String, Mistake> {
+pub fn findings(heap: Global, reader: &mut Reader, stretch: &[u8]) -> Answer {
     let count = stretch.len();
     let mut text = format!(in heap; "read {count}:")?;
-    let mut at = 0;
-    while at < stretch.len() {
-        let (finding, used) = reader.read(&stretch[at..]);
-        at += used;
-        add_finding(heap, &mut text, &finding)?;
+    let mut rest = stretch;
+    // kept: (d) a loop, as in `station` and `decode`: an iterator would hold the reader and the stretch, and between two findings `station` answers with all of itself, and `decode` counts the bytes used and stops where it has no more room.
+    while !rest.is_empty() {
+        let (finding, used) = reader.read(rest);
+        rest = &rest[used..];
+        write!(text, "{}", Told(finding))?;
     }
-    let held = reader.held();
-    text.push_str(format!(in heap; " held {held}")?.as_str())?;
+    write!(text, " held {}", reader.held())?;
     Ok(text)
 }
 
-fn add_finding(heap: Global, text: &mut String, finding: &Finding) -> Result<(), AllocError> {
-    match finding {
-        Finding::Frame(frame) => add_frame(heap, text, frame),
-        Finding::Dropped { cause, size } => {
-            let letter = match cause {
-                Cause::Length => 'L',
-                Cause::End => 'E',
-                Cause::Check => 'C',
-            };
-            text.push_str(format!(in heap; " drop {letter} {size};")?.as_str())
-        }
-        Finding::Nothing => text.push_str(" nothing yet;"),
-    }
-}
+// What is told of the end of one reading.
+#[derive(Clone, Copy)]
+struct Told(Option<Finding>);
 
-fn add_frame(heap: Global, text: &mut String, frame: &Frame) -> Result<(), AllocError> {
-    text.push_str(" frame")?;
-    add_bytes(heap, text, &[frame.cmd()])?;
-    add_bytes(heap, text, frame.data())?;
-    text.push_str(";")
+impl fmt::Display for Told {
+    fn fmt<W: fmt::Write>(&self, f: &mut fmt::Formatter<W>) -> fmt::Result {
+        match &self.0 {
+            Some(Finding::Frame(frame)) => {
+                let cmd = frame.cmd();
+                let data = Spaced(frame.data());
+                write!(f, " frame {cmd:02X}{data};")
+            }
+            Some(Finding::Dropped { cause, size }) => {
+                // kept: (a) the letters stand here and in `decode`: `frames` names causes and prints none, and no crate above it is common to both programs.
+                let letter = match cause {
+                    Cause::Length => 'L',
+                    Cause::End => 'E',
+                    Cause::Check => 'C',
+                };
+                write!(f, " drop {letter} {size};")
+            }
+            None => f.write_str(" nothing yet;"),
+        }
+    }
 }

@@ -1,6 +1,7 @@
-// A line under trial, with the boxes around it and a reader at its near end.
-use super::command::{Command, LineCall};
-use super::mistake::Mistake;
+// A line under trial, with the boxes around it, a reader at its near end, and what can be said to an end of it.
+use super::command::{Command, EndCall};
+use super::mistake::{Answer, Mistake};
+use super::subject::{Boxable, Subject};
 use frames::reader::Reader;
 use lines::fault_box::FaultBox;
 use lines::line::Line;
@@ -8,28 +9,52 @@ use lines::refusal::Refusal;
 use lines::script::Entry;
 use lines::tape::Tape;
 use lines::wire::Wire;
+use std::alloc::Global;
 
 #[derive(Drop)]
-pub struct Rig<L> {
+pub struct Rig<L, E> {
     pub line: L,
     pub reader: Reader,
+    pub end: E,
 }
 
-impl<L: Line> Rig<L> {
+// What lines of one kind are called, and what is said to one end of them, however many boxes stand around.
+pub trait End<L> {
+    const KIND: &'static str;
+
+    fn answer(&self, heap: Global, line: &mut L, call: &EndCall) -> Answer;
+}
+
+impl<L: Line, E> Rig<L, E> {
     // A bare line, and a reader that holds nothing.
-    pub fn new(line: L) -> Rig<L> {
+    pub fn new(line: L, end: E) -> Rig<L, E> {
         Rig {
             line,
             reader: Reader::new(),
+            end,
         }
     }
+}
 
-    // The same with a box more around the line.
-    pub fn boxed(self) -> Rig<FaultBox<L>> {
-        let Rig { line, reader } = self;
+impl<L: Line + Scripted, E: End<L>> Subject for Rig<L, E> {
+    fn answer(&mut self, heap: Global, command: &Command) -> Answer {
+        match command {
+            Command::Line(call) => self.answer_call(heap, call),
+            Command::Box => Err(Mistake::BoxesUsedUp),
+            _ => Err(Mistake::NotFor(E::KIND)),
+        }
+    }
+}
+
+impl<L: Line + Scripted + Drop, E: End<L> + End<FaultBox<L>> + Drop> Boxable for Rig<L, E> {
+    type Boxed = Rig<FaultBox<L>, E>;
+
+    fn boxed(self) -> Rig<FaultBox<L>, E> {
+        let Rig { line, reader, end } = self;
         Rig {
             line: FaultBox::new(line),
             reader,
+            end,
         }
     }
 }
@@ -37,32 +62,17 @@ impl<L: Line> Rig<L> {
 // A line whose outermost box, if it has one, can be loaded.
 pub trait Scripted {
     // What the box says to the script; none where there is no box.
-    fn load_script(&mut self, entries: &[Entry]) -> Option<Result<(), Refusal>>;
-}
-
-impl<'a> Scripted for Wire<'a> {
     fn load_script(&mut self, _entries: &[Entry]) -> Option<Result<(), Refusal>> {
         None
     }
 }
 
-impl<'a> Scripted for Tape<'a> {
-    fn load_script(&mut self, _entries: &[Entry]) -> Option<Result<(), Refusal>> {
-        None
-    }
-}
+impl<'a> Scripted for Wire<'a> {}
+
+impl<'a> Scripted for Tape<'a> {}
 
 impl<L: Line> Scripted for FaultBox<L> {
     fn load_script(&mut self, entries: &[Entry]) -> Option<Result<(), Refusal>> {
         Some(self.load(entries))
-    }
-}
-
-// What a command says to a line, or why it says nothing to it.
-pub fn call_in<'a>(command: &'a Command, kind: &'static str) -> Result<&'a LineCall, Mistake> {
-    match command {
-        Command::Line(call) => Ok(call),
-        Command::Box => Err(Mistake::BoxesUsedUp),
-        _ => Err(Mistake::NotFor(kind)),
     }
 }

@@ -1,5 +1,5 @@
 // The bench from its arguments to the end of its script.
-use super::arguments::{HELP, is_help};
+use super::arguments::{Help, is_help};
 use super::failure::Failure;
 use super::sessions::session;
 use super::stand::Stand;
@@ -7,16 +7,10 @@ use super::subject::{Nothing, play};
 use std::env;
 
 pub fn run(rt: &HostRuntime) -> Result<(), Failure> {
-    let mut words = match env::args(rt) {
-        Ok(words) => words.skip(1),
-        Err(e) => return Err(Failure::Read(e)),
-    };
+    let mut words = env::args(rt).map_err(Failure::Read)?.skip(1);
     match words.next() {
         None => play_all(rt),
-        Some(word) if is_help(word.as_str()) => match rt.print(HELP) {
-            Ok(()) => Ok(()),
-            Err(e) => Err(Failure::Write(e)),
-        },
+        Some(word) if is_help(word.as_str()) => rt.print(Help).map_err(Failure::Write),
         Some(word) => Err(Failure::UnknownArgument(word)),
     }
 }
@@ -25,11 +19,10 @@ pub fn run(rt: &HostRuntime) -> Result<(), Failure> {
 fn play_all(rt: &HostRuntime) -> Result<(), Failure> {
     let mut stand = Stand::new(rt)?;
     let mut next = play(&mut Nothing, &mut stand)?;
+    // kept: (c) tried `while let` on what is next: its measure stays open, for none falls while a script is read.
     for _ in 0..u64::MAX {
-        match next {
-            Some(maker) => next = session(maker, &mut stand)?,
-            None => return Ok(()),
-        }
+        let Some(maker) = next else { break };
+        next = session(maker, &mut stand)?;
     }
     Ok(())
 }

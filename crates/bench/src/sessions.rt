@@ -2,9 +2,8 @@
 use super::card_sessions::{on_image, on_settings, on_store, on_table};
 use super::command::Maker;
 use super::failure::Failure;
+use super::line_sessions::{on_tape, on_wire};
 use super::stand::Stand;
-use super::tape_sessions::on_tape;
-use super::wire_sessions::on_wire;
 
 // Makes what a maker says and plays on it; what is to be made next.
 pub fn session(maker: Maker, stand: &mut Stand<'_>) -> Result<Option<Maker>, Failure> {

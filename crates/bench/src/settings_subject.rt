@@ -1,21 +1,22 @@
 // Settings that answer commands, and questions about kinds of boards.
-use super::command::{Command, Kind, SettingsCall};
-use super::mistake::Mistake;
+use super::command::{Command, SettingsCall};
+use super::kind::WithBoard;
+use super::mistake::{Answer, Mistake};
 use super::subject::Subject;
 use super::texts::{plain, shown, with_mode};
-use boards::board::{Board, WaveCard25, WaveCard500, Waveport915};
+use boards::board::Board;
 use boards::settings::{Settings, Unlawful};
 use std::alloc::Global;
 
 impl<B: Board> Subject for Settings<B> {
-    fn answer(&mut self, heap: Global, command: &Command) -> Result<String, Mistake> {
+    fn answer(&mut self, heap: Global, command: &Command) -> Answer {
         let Command::Settings(call) = command else {
             return Err(Mistake::NotFor("settings"));
         };
-        if changed(self, *call).is_err() {
-            return plain(heap, "unlawful");
+        match changed(self, *call) {
+            Ok(()) => told(heap, self, *call),
+            Err(Unlawful) => plain(heap, "unlawful"),
         }
-        told(heap, self, *call)
     }
 }
 
@@ -30,11 +31,7 @@ fn changed<B: Board>(settings: &mut Settings<B>, call: SettingsCall) -> Result<(
 }
 
 // The setting that a call is about, as it is now.
-fn told<B: Board>(
-    heap: Global,
-    settings: &Settings<B>,
-    call: SettingsCall,
-) -> Result<String, Mistake> {
+fn told<B: Board>(heap: Global, settings: &Settings<B>, call: SettingsCall) -> Answer {
     match call {
         SettingsCall::Mode(_) => with_mode(heap, "mode", settings.mode()),
         SettingsCall::Channel(_) => shown(heap, "channel", &[settings.channel()]),
@@ -42,35 +39,42 @@ fn told<B: Board>(
     }
 }
 
-// What is fixed about a kind of board.
-pub fn board(heap: Global, kind: Kind) -> Result<String, Mistake> {
-    match kind {
-        Kind::WaveCard25 => fixed(heap, &WaveCard25),
-        Kind::WaveCard500 => fixed(heap, &WaveCard500),
-        Kind::Waveport915 => fixed(heap, &Waveport915),
+// Asks what is fixed about a board.
+#[derive(Clone, Copy)]
+pub struct Fixed {
+    pub heap: Global,
+}
+
+impl WithBoard for Fixed {
+    type Outcome = Answer;
+
+    fn with<B: Board + Drop>(self, board: B) -> Answer {
+        let mode = board.first_mode();
+        let settable = if board.lets_power_be_set() {
+            "settable"
+        } else {
+            "not settable"
+        };
+        Ok(format!(in self.heap; "default {mode:04X}, power {settable}")?)
     }
 }
 
-fn fixed<B: Board>(heap: Global, board: &B) -> Result<String, Mistake> {
-    let mode = board.first_mode();
-    let settable = if board.lets_power_be_set() {
-        "settable"
-    } else {
-        "not settable"
-    };
-    Ok(format!(in heap; "default {mode:04X}, power {settable}")?)
+// Asks whether a board admits a mode.
+#[derive(Clone, Copy)]
+pub struct Admits {
+    pub heap: Global,
+    pub mode: u16,
 }
 
-// Whether a kind of board admits a mode.
-pub fn admits(heap: Global, kind: Kind, mode: u16) -> Result<String, Mistake> {
-    let admitted = match kind {
-        Kind::WaveCard25 => WaveCard25.admits(mode),
-        Kind::WaveCard500 => WaveCard500.admits(mode),
-        Kind::Waveport915 => Waveport915.admits(mode),
-    };
-    if admitted {
-        with_mode(heap, "admitted", mode)
-    } else {
-        with_mode(heap, "not admitted", mode)
+impl WithBoard for Admits {
+    type Outcome = Answer;
+
+    fn with<B: Board + Drop>(self, board: B) -> Answer {
+        let word = if board.admits(self.mode) {
+            "admitted"
+        } else {
+            "not admitted"
+        };
+        with_mode(self.heap, word, self.mode)
     }
 }

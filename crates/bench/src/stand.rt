@@ -1,26 +1,28 @@
 // Where the bench stands in its script: what comes next, and what is said to it.
 use super::command::Command;
 use super::failure::Failure;
-use super::mistake::Mistake;
+use super::mistake::{Answer, Mistake};
 use super::parse::parse;
 use std::alloc::Global;
 use std::fmt::Display;
-use std::io::{BufRead, BufReader, Stdin};
+use std::io::{BufRead, BufReader, Split, Stdin};
 
 #[derive(Drop)]
 pub struct Stand<'a> {
     rt: &'a HostRuntime,
-    input: BufReader<Stdin>,
+    lines: Split<BufReader<Stdin>>,
     // the number of the line read last, from 1
-    line: u64,
+    number: u64,
 }
 
 impl<'a> Stand<'a> {
     pub fn new(rt: &'a HostRuntime) -> Result<Stand<'a>, Failure> {
-        match BufReader::new(rt.alloc(), rt.stdin()) {
-            Ok(input) => Ok(Stand { rt, input, line: 0 }),
-            Err(e) => Err(Failure::Read(e)),
-        }
+        let input = BufReader::new(rt.alloc(), rt.stdin()).map_err(Failure::Read)?;
+        Ok(Stand {
+            rt,
+            lines: input.split(rt.alloc(), b'\n'),
+            number: 0,
+        })
     }
 
     pub fn heap(&self) -> Global {
@@ -29,18 +31,14 @@ impl<'a> Stand<'a> {
 
     // The next command, or none at the end of the script. Lines that are none are answered on the way.
     pub fn next(&mut self) -> Result<Option<Command>, Failure> {
-        let heap = self.heap();
-        for _ in 0..u64::MAX {
-            let mut bytes = Vec::new(heap);
-            match self.input.read_until(b'\n', &mut bytes) {
-                Ok(0) => break,
-                Ok(_) => self.line = self.line.saturating_add(1),
-                Err(e) => return Err(Failure::Read(e)),
-            }
-            match said(heap, bytes.as_slice()) {
+        let Stand { rt, lines, number } = self;
+        for bytes in lines.by_ref() {
+            let bytes = bytes.map_err(Failure::Read)?;
+            *number = number.saturating_add(1);
+            match said(rt.alloc(), bytes.as_slice()) {
                 Ok(Some(command)) => return Ok(Some(command)),
                 Ok(None) => {}
-                Err(mistake) => self.answer(Err(mistake))?,
+                Err(mistake) => report(rt, *number, mistake)?,
             }
         }
         Ok(None)
@@ -48,31 +46,26 @@ impl<'a> Stand<'a> {
 
     // Prints what was done.
     pub fn say<T: Display + Drop>(&self, text: T) -> Result<(), Failure> {
-        match self.rt.println(text) {
-            Ok(()) => Ok(()),
-            Err(e) => Err(Failure::Write(e)),
-        }
-    }
-
-    // Prints that a line has so many boxes now.
-    pub fn boxed(&self, boxes: u8) -> Result<(), Failure> {
-        self.say(format_args!("boxed {boxes}"))
+        self.rt.println(text).map_err(Failure::Write)
     }
 
     // Prints the answer to the command read last.
-    pub fn answer(&self, answer: Result<String, Mistake>) -> Result<(), Failure> {
-        let line = self.line;
+    pub fn answer(&self, answer: Answer) -> Result<(), Failure> {
         match answer {
-            Ok(text) => self.say(text.as_str()),
-            Err(mistake) => self.say(format_args!("line {line}: {mistake}")),
+            Ok(text) => self.say(text),
+            Err(mistake) => report(self.rt, self.number, mistake),
         }
     }
 }
 
+// Prints why a line is not carried out.
+fn report(rt: &HostRuntime, number: u64, mistake: Mistake<'_>) -> Result<(), Failure> {
+    rt.println(format_args!("line {number}: {mistake}"))
+        .map_err(Failure::Write)
+}
+
 // The command that the bytes of a line say.
-fn said(heap: Global, bytes: &[u8]) -> Result<Option<Command>, Mistake> {
-    match std::str::from_utf8(bytes) {
-        Ok(line) => parse(heap, line),
-        Err(_) => Err(Mistake::NoText),
-    }
+fn said(heap: Global, bytes: &[u8]) -> Result<Option<Command>, Mistake<'_>> {
+    let line = std::str::from_utf8(bytes).map_err(|_| Mistake::NoText)?;
+    parse(heap, line)
 }

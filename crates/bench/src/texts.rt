@@ -1,41 +1,61 @@
 // The texts that answers are made of.
-use super::mistake::Mistake;
-use std::alloc::{AllocError, Global};
+// kept: (d) `heap` is handed to what allocates, as std does it; a struct around it would be taken apart at each call.
+use super::mistake::Answer;
+use std::alloc::Global;
+use std::fmt;
+
+// Each byte, behind a blank.
+#[derive(Clone, Copy)]
+pub struct Spaced<'a>(pub &'a [u8]);
+
+impl<'a> fmt::Display for Spaced<'a> {
+    fn fmt<W: fmt::Write>(&self, f: &mut fmt::Formatter<W>) -> fmt::Result {
+        for byte in self.0 {
+            write!(f, " {byte:02X}")?;
+        }
+        Ok(())
+    }
+}
+
+// A refusal by number and name.
+#[derive(Drop)]
+pub struct Refused<R> {
+    pub number: u8,
+    pub refusal: R,
+}
+
+impl<R: fmt::Debug> fmt::Display for Refused<R> {
+    fn fmt<W: fmt::Write>(&self, f: &mut fmt::Formatter<W>) -> fmt::Result {
+        write!(f, "refused {} {:?}", self.number, self.refusal)
+    }
+}
 
 // A text that is the same each time.
-pub fn plain(heap: Global, text: &str) -> Result<String, Mistake> {
+pub fn plain(heap: Global, text: &str) -> Answer {
     Ok(String::from_str(heap, text)?)
 }
 
 // A word, and a number behind it.
-pub fn counted(heap: Global, word: &str, count: usize) -> Result<String, Mistake> {
+pub fn counted(heap: Global, word: &str, count: usize) -> Answer {
     Ok(format!(in heap; "{word} {count}")?)
 }
 
 // A word, and a mode behind it.
-pub fn with_mode(heap: Global, word: &str, mode: u16) -> Result<String, Mistake> {
+pub fn with_mode(heap: Global, word: &str, mode: u16) -> Answer {
     Ok(format!(in heap; "{word} {mode:04X}")?)
 }
 
-// A refusal by number and name.
-pub fn refused(heap: Global, number: u8, name: &str) -> Result<String, Mistake> {
-    Ok(format!(in heap; "refused {number} {name}")?)
+// What is said where something was refused.
+pub fn refuse<R: fmt::Debug + Drop>(heap: Global, number: u8, refusal: R) -> Answer {
+    let refused = Refused { number, refusal };
+    Ok(format!(in heap; "{refused}")?)
 }
 
 // A word, and each byte behind it; or that there is none.
-pub fn shown(heap: Global, word: &str, bytes: &[u8]) -> Result<String, Mistake> {
+pub fn shown(heap: Global, word: &str, bytes: &[u8]) -> Answer {
     if bytes.is_empty() {
         return Ok(format!(in heap; "{word} nothing")?);
     }
-    let mut text = String::from_str(heap, word)?;
-    add_bytes(heap, &mut text, bytes)?;
-    Ok(text)
-}
-
-// Adds each byte behind a blank.
-pub fn add_bytes(heap: Global, text: &mut String, bytes: &[u8]) -> Result<(), AllocError> {
-    for byte in bytes {
-        text.push_str(format!(in heap; " {byte:02X}")?.as_str())?;
-    }
-    Ok(())
+    let bytes = Spaced(bytes);
+    Ok(format!(in heap; "{word}{bytes}")?)
 }

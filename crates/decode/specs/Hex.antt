@@ -1,5 +1,7 @@
 -- Hexadecimal text.
-use Rattle.std.specs.Prelude.{◌≡◌, ℕ, ◌+◌, ◌-◌, ◌/◌, ◌%◌, ◌<◌, Bool, true, false, cond, List, [], ◌∷◌, ◌++◌, Some, None, Option, nat_le, nat_lt}
+use Rattle.std.specs.Prelude.{◌≡◌, ℕ, ◌+◌, ◌/◌, ◌%◌, ◌<◌, cond, List, [], ◌∷◌, ◌++◌, Some, None, Option, nat_lt}
+use Rattle.std.specs.Char.{digit_value as value_of, is_digit}
+use Rattle.std.specs.List.{flat_map}
 
 -- the digit that stands for a number below 16
 abbrev pub hex_digit : ℕ → ℕ
@@ -11,22 +13,15 @@ hex_pair b = hex_digit (b / 16) ∷ (hex_digit (b % 16) ∷ [])
 
 -- bytes as text, each behind a blank
 abbrev pub hex_text : List ℕ → List ℕ
-hex_text [] = []
-hex_text (b ∷ bs) = 32 ∷ (hex_pair b ++ hex_text bs)
+hex_text bytes = flat_map (λ b. 32 ∷ hex_pair b) bytes
 
 -- a number below 2 ^ 32 as eight digits, the highest first
 abbrev pub hex_eight : ℕ → List ℕ
 hex_eight n = hex_pair (n / 16777216) ++ (hex_pair (n / 65536 % 256) ++ (hex_pair (n / 256 % 256) ++ hex_pair (n % 256)))
 
-abbrev pub both : Bool → Bool → Bool
-both true b = b
-both false b = false
-
 -- what a digit stands for; capital and small letters are the same
 abbrev pub digit_value : ℕ → Option ℕ
-digit_value c =
-    cond (both (nat_le 48 c) (nat_le c 57)) (Some (c - 48))
-    (cond (both (nat_le 97 c) (nat_le c 102)) (Some (c - 87)) (cond (both (nat_le 65 c) (nat_le c 70)) (Some (c - 55)) None))
+digit_value c = cond (is_digit c 16) (Some (value_of c)) None
 
 -- a digit that is written reads back as what it stands for
 abbrev pub ReadsBack : Type 0

@@ -1,5 +1,5 @@
 // What the program is asked to do.
-use std::alloc::{AllocError, Global};
+use thiserror::Error;
 
 pub const HELP: &str = "decode [--hex] [FILE]
 
@@ -37,36 +37,27 @@ pub enum Task {
 }
 
 // Why the arguments make no task.
-#[derive(Debug, Drop)]
+#[derive(Debug, Drop, Error)]
 pub enum BadUse {
+    #[error("unknown option {0}; decode --help says how to use it")]
     UnknownOption(String),
+    #[error("more than one file, {0}; decode --help says how to use it")]
     SecondFile(String),
-    Memory,
-}
-
-impl From<AllocError> for BadUse {
-    fn from(_e: AllocError) -> BadUse {
-        BadUse::Memory
-    }
 }
 
 // The task that the words after the program's name ask for.
-pub fn parse(heap: Global, words: &[String]) -> Result<Task, BadUse> {
+pub fn parse(words: Vec<String>) -> Result<Task, BadUse> {
     let mut hex = false;
     let mut file = None;
     for word in words {
-        let word = word.as_str();
-        if word == "--help" || word == "-h" {
-            return Ok(Task::Help);
-        }
-        if word == "--hex" {
-            hex = true;
-        } else if word.starts_with('-') && word != "-" {
-            return Err(BadUse::UnknownOption(String::from_str(heap, word)?));
-        } else if file.is_some() {
-            return Err(BadUse::SecondFile(String::from_str(heap, word)?));
-        } else {
-            file = Some(String::from_str(heap, word)?);
+        match word.as_str() {
+            "--help" | "-h" => return Ok(Task::Help),
+            "--hex" => hex = true,
+            option if option.starts_with('-') && option != "-" => {
+                return Err(BadUse::UnknownOption(word));
+            }
+            _ if file.is_some() => return Err(BadUse::SecondFile(word)),
+            _ => file = Some(word),
         }
     }
     Ok(Task::Decode(Capture { hex, file }))

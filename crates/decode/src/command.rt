@@ -1,227 +1,68 @@
 // The names of the commands that a card and its host exchange.
-use frames::numbered::{Numbered, find};
+ghost use Rattle.std.specs.Prelude.{◌≡◌, true};
+ghost use Rattle.std.specs.Ordering.{nat_cmp};
+ghost use Rattle.std.specs.FinMap.Entries.{is_sorted};
 
-// A command by its number, as the maker names it.
-pub struct Command {
-    number: u8,
-    name: &'static str,
-}
-
-impl Numbered for Command {
-    ghost carried = { λ c. c.number };
-
-    fn number(&self) -> u32 {
-        u32::from(self.number)
-    }
-}
-
-static COMMANDS: [Command; 50] = [
-    Command {
-        number: 0x00,
-        name: "ERROR",
-    },
-    Command {
-        number: 0x06,
-        name: "ACK",
-    },
-    Command {
-        number: 0x15,
-        name: "NAK",
-    },
-    Command {
-        number: 0x20,
-        name: "REQ_SEND_FRAME",
-    },
-    Command {
-        number: 0x21,
-        name: "RES_SEND_FRAME",
-    },
-    Command {
-        number: 0x22,
-        name: "REQ_SEND_MESSAGE",
-    },
-    Command {
-        number: 0x24,
-        name: "REQ_SEND_BROADCAST_RESPONSE",
-    },
-    Command {
-        number: 0x26,
-        name: "REQ_SEND_POLLING",
-    },
-    Command {
-        number: 0x28,
-        name: "REQ_SEND_BROADCAST",
-    },
-    Command {
-        number: 0x2A,
-        name: "REQ_SEND_BROADCAST_MESSAGE",
-    },
-    Command {
-        number: 0x30,
-        name: "RECEIVED_FRAME",
-    },
-    Command {
-        number: 0x31,
-        name: "RECEPTION_ERROR",
-    },
-    Command {
-        number: 0x32,
-        name: "RECEIVED_FRAME_POLLING",
-    },
-    Command {
-        number: 0x34,
-        name: "RECEIVED_BROADCAST_RESPONSE",
-    },
-    Command {
-        number: 0x35,
-        name: "RECEIVED_FRAME_RELAYED",
-    },
-    Command {
-        number: 0x36,
-        name: "RECEIVED_MULTIFRAME",
-    },
-    Command {
-        number: 0x37,
-        name: "END_MESSAGE_EXCHANGE",
-    },
-    Command {
-        number: 0x38,
-        name: "RECEIVED_BROADCAST_FRAME",
-    },
-    Command {
-        number: 0x40,
-        name: "REQ_WRITE_RADIO_PARAM",
-    },
-    Command {
-        number: 0x41,
-        name: "RES_WRITE_RADIO_PARAM",
-    },
-    Command {
-        number: 0x42,
-        name: "REQ_CHANGE_UART_BDRATE",
-    },
-    Command {
-        number: 0x43,
-        name: "RES_CHANGE_UART_BDRATE",
-    },
-    Command {
-        number: 0x44,
-        name: "REQ_CHANGE_TX_POWER",
-    },
-    Command {
-        number: 0x45,
-        name: "RES_CHANGE_TX_POWER",
-    },
-    Command {
-        number: 0x46,
-        name: "REQ_WRITE_AUTOCORR_STATE",
-    },
-    Command {
-        number: 0x47,
-        name: "RES_WRITE_AUTOCORR_STATE",
-    },
-    Command {
-        number: 0x50,
-        name: "REQ_READ_RADIO_PARAM",
-    },
-    Command {
-        number: 0x51,
-        name: "RES_READ_RADIO_PARAM",
-    },
-    Command {
-        number: 0x54,
-        name: "REQ_READ_TX_POWER",
-    },
-    Command {
-        number: 0x55,
-        name: "RES_READ_TX_POWER",
-    },
-    Command {
-        number: 0x5A,
-        name: "REQ_READ_AUTOCORR_STATE",
-    },
-    Command {
-        number: 0x5B,
-        name: "RES_READ_AUTOCORR_STATE",
-    },
-    Command {
-        number: 0x60,
-        name: "REQ_SELECT_CHANNEL",
-    },
-    Command {
-        number: 0x61,
-        name: "RES_SELECT_CHANNEL",
-    },
-    Command {
-        number: 0x62,
-        name: "REQ_READ_CHANNEL",
-    },
-    Command {
-        number: 0x63,
-        name: "RES_READ_CHANNEL",
-    },
-    Command {
-        number: 0x64,
-        name: "REQ_SELECT_PHYCONFIG",
-    },
-    Command {
-        number: 0x65,
-        name: "RES_SELECT_PHYCONFIG",
-    },
-    Command {
-        number: 0x66,
-        name: "REQ_READ_PHYCONFIG",
-    },
-    Command {
-        number: 0x67,
-        name: "RES_READ_PHYCONFIG",
-    },
-    Command {
-        number: 0x68,
-        name: "REQ_READ_REMOTE_RSSI",
-    },
-    Command {
-        number: 0x69,
-        name: "RES_READ_REMOTE_RSSI",
-    },
-    Command {
-        number: 0x6A,
-        name: "REQ_READ_LOCAL_RSSI",
-    },
-    Command {
-        number: 0x6B,
-        name: "RES_READ_LOCAL_RSSI",
-    },
-    Command {
-        number: 0x80,
-        name: "REQ_SEND_SERVICE",
-    },
-    Command {
-        number: 0x81,
-        name: "RES_SEND_SERVICE",
-    },
-    Command {
-        number: 0x82,
-        name: "SERVICE_RESPONSE",
-    },
-    Command {
-        number: 0xA0,
-        name: "REQ_FIRMWARE_VERSION",
-    },
-    Command {
-        number: 0xA1,
-        name: "RES_FIRMWARE_VERSION",
-    },
-    Command {
-        number: 0xB0,
-        name: "MODE_TEST",
-    },
+// The commands by rising number, as the search in `name` needs them, each with the name that its maker gives it.
+pub(crate) static NAMES: [(u8, &str); 50] = [
+    (0x00, "ERROR"),
+    (0x06, "ACK"),
+    (0x15, "NAK"),
+    (0x20, "REQ_SEND_FRAME"),
+    (0x21, "RES_SEND_FRAME"),
+    (0x22, "REQ_SEND_MESSAGE"),
+    (0x24, "REQ_SEND_BROADCAST_RESPONSE"),
+    (0x26, "REQ_SEND_POLLING"),
+    (0x28, "REQ_SEND_BROADCAST"),
+    (0x2A, "REQ_SEND_BROADCAST_MESSAGE"),
+    (0x30, "RECEIVED_FRAME"),
+    (0x31, "RECEPTION_ERROR"),
+    (0x32, "RECEIVED_FRAME_POLLING"),
+    (0x34, "RECEIVED_BROADCAST_RESPONSE"),
+    (0x35, "RECEIVED_FRAME_RELAYED"),
+    (0x36, "RECEIVED_MULTIFRAME"),
+    (0x37, "END_MESSAGE_EXCHANGE"),
+    (0x38, "RECEIVED_BROADCAST_FRAME"),
+    (0x40, "REQ_WRITE_RADIO_PARAM"),
+    (0x41, "RES_WRITE_RADIO_PARAM"),
+    (0x42, "REQ_CHANGE_UART_BDRATE"),
+    (0x43, "RES_CHANGE_UART_BDRATE"),
+    (0x44, "REQ_CHANGE_TX_POWER"),
+    (0x45, "RES_CHANGE_TX_POWER"),
+    (0x46, "REQ_WRITE_AUTOCORR_STATE"),
+    (0x47, "RES_WRITE_AUTOCORR_STATE"),
+    (0x50, "REQ_READ_RADIO_PARAM"),
+    (0x51, "RES_READ_RADIO_PARAM"),
+    (0x54, "REQ_READ_TX_POWER"),
+    (0x55, "RES_READ_TX_POWER"),
+    (0x5A, "REQ_READ_AUTOCORR_STATE"),
+    (0x5B, "RES_READ_AUTOCORR_STATE"),
+    (0x60, "REQ_SELECT_CHANNEL"),
+    (0x61, "RES_SELECT_CHANNEL"),
+    (0x62, "REQ_READ_CHANNEL"),
+    (0x63, "RES_READ_CHANNEL"),
+    (0x64, "REQ_SELECT_PHYCONFIG"),
+    (0x65, "RES_SELECT_PHYCONFIG"),
+    (0x66, "REQ_READ_PHYCONFIG"),
+    (0x67, "RES_READ_PHYCONFIG"),
+    (0x68, "REQ_READ_REMOTE_RSSI"),
+    (0x69, "RES_READ_REMOTE_RSSI"),
+    (0x6A, "REQ_READ_LOCAL_RSSI"),
+    (0x6B, "RES_READ_LOCAL_RSSI"),
+    (0x80, "REQ_SEND_SERVICE"),
+    (0x81, "RES_SEND_SERVICE"),
+    (0x82, "SERVICE_RESPONSE"),
+    (0xA0, "REQ_FIRMWARE_VERSION"),
+    (0xA1, "RES_FIRMWARE_VERSION"),
+    (0xB0, "MODE_TEST"),
 ];
 
-// The name of a command; one that the table has not is shown as unknown.
-pub fn name(cmd: u8) -> &'static str {
-    match find(&COMMANDS, u32::from(cmd)) {
-        Some(place) => COMMANDS[place].name,
-        None => "unknown",
+// The name of a command; another number is shown as unknown.
+pub fn name(cmd: u8) -> &'static str
+    ensures rising { is_sorted nat_cmp NAMES ≡ true }
+{
+    match NAMES.binary_search_by_key(&cmd, |row| row.0) {
+        Ok(place) => NAMES[place].1,
+        Err(_) => "unknown",
     }
 }

@@ -1,6 +1,6 @@
 // What a whole capture held, counted.
-ghost use Rattle.std.specs.Prelude.{◌≡◌, slice_index, slice_set};
-ghost use Rattle.decode.specs.Counts.{raised, DropCounted};
+ghost use Rattle.std.specs.Prelude.{◌≡◌, ◌<◌, length, fold, slice_index, slice_set};
+ghost use Rattle.decode.specs.Counts.{raised, raised_at, DropCounted};
 
 use frames::finding::Cause;
 
@@ -12,9 +12,8 @@ pub struct Tally {
     pub used: u64,
     // how many frames had each command
     pub frames: [u64; 256],
-    pub length: u64,
-    pub end: u64,
-    pub check: u64,
+    // how many candidates were dropped for each cause
+    pub drops: [u64; 3],
 }
 
 impl Tally {
@@ -23,9 +22,7 @@ impl Tally {
             bytes: 0,
             used: 0,
             frames: [0; 256],
-            length: 0,
-            end: 0,
-            check: 0,
+            drops: [0; 3],
         }
     }
 
@@ -35,8 +32,7 @@ impl Tally {
         ensures used { self.new.used ≡ raised self.old.used size }
         ensures kept { self.new.bytes ≡ self.old.bytes }
     {
-        let place = cmd as usize;
-        self.frames[place] = self.frames[place].saturating_add(1);
+        raise(&mut self.frames, usize::from(cmd));
         self.used = self.used.saturating_add(size);
     }
 
@@ -46,30 +42,36 @@ impl Tally {
         ensures used { self.new.used ≡ raised self.old.used size }
         ensures kept { self.new.frames ≡ self.old.frames }
     {
-        match cause {
-            Cause::Length => self.length = self.length.saturating_add(1),
-            Cause::End => self.end = self.end.saturating_add(1),
-            Cause::Check => self.check = self.check.saturating_add(1),
-        }
+        raise(&mut self.drops, cause as usize);
         self.used = self.used.saturating_add(size);
     }
 
     pub fn all_frames(&self) -> u64 {
-        let mut sum: u64 = 0;
-        for count in self.frames.iter() {
-            sum = sum.saturating_add(*count);
-        }
-        sum
+        total(&self.frames)
     }
 
     pub fn all_drops(&self) -> u64 {
-        self.length
-            .saturating_add(self.end)
-            .saturating_add(self.check)
+        total(&self.drops)
     }
 
     // The bytes that belong to nothing, where so many are still held at the end.
     pub fn noise(&self, held: u64) -> u64 {
         self.bytes.saturating_sub(self.used).saturating_sub(held)
     }
+}
+
+// Raises the count at a place by one.
+fn raise(counts: &mut [u64], place: usize)
+    requires { place < length counts.old }
+    ensures { counts.new ≡ raised_at counts.old place }
+{
+    counts[place] = counts[place].saturating_add(1);
+}
+
+fn total(counts: &[u64]) -> u64
+    ensures { result ≡ fold raised 0 counts.now }
+{
+    counts
+        .iter()
+        .fold(0, |sum: u64, count| sum.saturating_add(*count))
 }

@@ -1,5 +1,7 @@
-// Bad use and bad text, which a run of the program in the gate cannot show.
+// Bad use, bad text and the names of all commands, which a run of the program in the gate cannot show.
 use super::arguments::{BadUse, Task, parse};
+use super::command::{self, NAMES};
+use super::failure::Failure;
 use super::hex::{HexFault, HexText};
 use std::test::Fail;
 
@@ -16,10 +18,10 @@ fn reads_hex_in_stretches(rt: HostRuntime) {
     assert!(rt;
         matches!(
             text.read(b"0x", &mut bytes),
-            Err(HexFault::NoDigit {
+            Err(Failure::Hex(HexFault::NoDigit {
                 place: 8,
                 found: b'x'
-            })
+            }))
         )
     );
 }
@@ -27,10 +29,23 @@ fn reads_hex_in_stretches(rt: HostRuntime) {
 #[test]
 fn refuses_bad_use(rt: HostRuntime) -> Result<(), Fail> {
     let heap = rt.alloc();
-    let mut words = Vec::new(heap);
-    words.push(String::from_str(heap, "--hex")?)?;
-    assert!(rt; matches!(parse(heap, words.as_slice())?, Task::Decode(_)));
-    words.push(String::from_str(heap, "--loud")?)?;
-    assert!(rt; matches!(parse(heap, words.as_slice()), Err(BadUse::UnknownOption(_))));
+    let good = vec![in heap; String::from_str(heap, "--hex")?]?;
+    assert!(rt; matches!(parse(good)?, Task::Decode(_)));
+    let bad = vec![in heap;
+        String::from_str(heap, "--hex")?,
+        String::from_str(heap, "--loud")?,
+    ]?;
+    assert!(rt; matches!(parse(bad), Err(BadUse::UnknownOption(_))));
     Ok(())
+}
+
+#[test]
+fn finds_each_name(rt: HostRuntime) {
+    for (number, name) in &NAMES {
+        assert_eq!(rt; command::name(*number), *name);
+    }
+    let nameless = (0..=u8::MAX).filter(|number| NAMES.iter().all(|row| row.0 != *number));
+    for number in nameless {
+        assert_eq!(rt; command::name(number), "unknown");
+    }
 }

@@ -47,12 +47,11 @@ module _ (memory body : List ℕ) (cmd : ℕ) (room : length body + 7 ≤ length
   over now is = ap (λ l. take (n + 4 - 2) (drop 2 l)) is ∙ take_at (covered cmd body) (drop (n + 4) memory) (n + 4 - 2) (omega arith)
 
   -- the check value and ETX behind them
-  pub closed : (now : List ℕ) (value : ℕ) → now ≡ (header ++ body) ++ drop (n + 4) memory → value ≡ crc_of (covered cmd body)
-      → set (set (set now (n + 4) (value % 256)) (n + 5) (value / 256)) (n + 6) 0x03 ≡ frame_bytes cmd body ++ drop (n + 7) memory
-  closed now value is right =
-      let low = value % 256 in
-      let high = value / 256 in
+  pub closed : (now : List ℕ) (value low high : ℕ) → now ≡ (header ++ body) ++ drop (n + 4) memory → value ≡ crc_of (covered cmd body)
+      → low ≡ value % 256 → high ≡ value / 256
+      → set (set (set now (n + 4) low) (n + 5) high) (n + 6) 0x03 ≡ frame_bytes cmd body ++ drop (n + 7) memory
+  closed now value low high is right lower upper =
       let one = then_byte memory (header ++ body) (n + 4) (omega arith) now low (n + 5) is (omega arith) (omega arith) in
       let two = then_byte memory ((header ++ body) ++ (low ∷ [])) (n + 5) (omega (arith, length-append (header ++ body) (low ∷ []))) _ high (n + 6) one (omega arith) (omega arith) in
       let three = then_byte memory (((header ++ body) ++ (low ∷ [])) ++ (high ∷ [])) (n + 6) (omega (arith, length-append (header ++ body) (low ∷ []), length-append ((header ++ body) ++ (low ∷ [])) (high ∷ []))) _ 0x03 (n + 7) two (omega arith) (omega arith) in
-      three ∙ simp append_assoc (ap (λ v. header ++ (body ++ (v % 256 ∷ (v / 256 ∷ (0x03 ∷ drop (n + 7) memory))))) right)
+      three ∙ simp append_assoc (λ i. header ++ (body ++ ((lower ∙ ap (λ v. v % 256) right) i ∷ ((upper ∙ ap (λ v. v / 256) right) i ∷ (0x03 ∷ drop (n + 7) memory)))))

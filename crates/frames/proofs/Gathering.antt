@@ -16,9 +16,9 @@ module _ (n : ℕ) (got stretch : List ℕ) (fits : Sized n) where
   gathers_more few = waits_held (part n (got ++ stretch) refl fits (omega (arith, length-append got stretch)))
 
   -- enough bytes: the candidate is judged
-  pub gathers_all : (m : ℕ) (r : Option Found) → length got + m ≡ n → m ≤ length stretch → r ≡ Some (verdict n (got ++ take m stretch))
-      → Reads (0xFF ∷ (0x02 ∷ (n ∷ got))) stretch r m []
-  gathers_all m r enough within is = subst (λ o. Reads (0xFF ∷ (0x02 ∷ (n ∷ got))) stretch o m []) (sym is) (
+  pub gathers_all : (m : ℕ) (v : Found) → length got + m ≡ n → m ≤ length stretch → v ≡ verdict n (got ++ take m stretch)
+      → Reads (0xFF ∷ (0x02 ∷ (n ∷ got))) stretch (Some v) m []
+  gathers_all m v enough within is = subst (λ w. Reads (0xFF ∷ (0x02 ∷ (n ∷ got))) stretch (Some w) m []) (sym is) (
     within,
     record {
       noise = [];
@@ -34,21 +34,25 @@ module _ (n : ℕ) (got stretch : List ℕ) (fits : Sized n) where
 
 -- what reading comes to, once the stage is known
 pub reads_at : (r : Reader) (s : Stage) (stretch after : List ℕ) (f : Option Found) (used : ℕ) → r.stage ≡ s
-    → Reads (begun s r.length (take r.got r.body)) stretch f used after → Reads (holds r) stretch f used after
-reads_at r s stretch after f used e = subst (λ t. Reads (begun t r.length (take r.got r.body)) stretch f used after) (sym e)
+    → Reads (begun s r.body) stretch f used after → Reads (holds r) stretch f used after
+reads_at r s stretch after f used e = subst (λ t. Reads (begun t r.body) stretch f used after) (sym e)
+
+-- as many bytes are held behind LENGTH as the stage says
+pub held_behind : (r : Reader) (n got : ℕ) → r.stage ≡ Body n got → length (take got r.body) ≡ got
+held_behind r n got e = let fits = r.«open» n got e in length-take-le got r.body (omega (arith, r.whole, fits.0.1, fits.1))
 
 -- the bytes of a stretch that is too short are held behind those that were
-pub gathers_held : (r : Reader) (stretch body : List ℕ) → r.stage ≡ Body → r.got + length stretch < r.length → length (take r.got r.body) ≡ r.got
-    → take (r.got + length stretch) body ≡ take r.got r.body ++ stretch
-    → Waits (holds r ++ stretch) (begun r.stage r.length (take (r.got + length stretch) body))
-gathers_held r stretch body e few long taken =
-    subst (λ s. Waits (begun s r.length (take r.got r.body) ++ stretch) (begun s r.length (take (r.got + length stretch) body))) (sym e)
-    (subst (λ l. Waits (0xFF ∷ (0x02 ∷ (r.length ∷ (take r.got r.body ++ stretch)))) (0xFF ∷ (0x02 ∷ (r.length ∷ l)))) (sym taken)
-    (gathers_more r.length (take r.got r.body) stretch (r.least, r.most) (omega arith)))
+pub gathers_held : (r : Reader) (n got : ℕ) (stretch body : List ℕ) → r.stage ≡ Body n got → got + length stretch < n
+    → take (got + length stretch) body ≡ take got r.body ++ stretch
+    → Waits (holds r ++ stretch) (begun (Body n (got + length stretch)) body)
+gathers_held r n got stretch body e few taken =
+    waits_at r (Body n got) stretch _ e
+    (subst (λ l. Waits (0xFF ∷ (0x02 ∷ (n ∷ (take got r.body ++ stretch)))) (0xFF ∷ (0x02 ∷ (n ∷ l)))) (sym taken)
+    (gathers_more n (take got r.body) stretch (r.«open» n got e).0 (omega (arith, held_behind r n got e))))
 
 -- a judged body is the candidate's
-pub judged_as : (n : ℕ) (bytes body : List ℕ) (r : Option Found) → r ≡ Some (verdict (length bytes) bytes) → length bytes ≡ n → bytes ≡ body → r ≡ Some (verdict n body)
-judged_as n bytes body r is long same = is ∙ (λ i. Some (verdict (long i) (same i)))
+pub judged_as : (n : ℕ) (bytes body : List ℕ) (v : Found) → v ≡ verdict (length bytes) bytes → length bytes ≡ n → bytes ≡ body → v ≡ verdict n body
+judged_as n bytes body v is long same = is ∙ (λ i. verdict (long i) (same i))
 
 -- a LENGTH that no frame has ends the candidate
 pub drops_length : (r after : Reader) (stretch : List ℕ) → r.stage ≡ Start → after.stage ≡ Hunting → 0 < length stretch → (Sized (get_or stretch 0 0) → ⊥)
@@ -66,15 +70,15 @@ drops_length r after (n ∷ more) at_start rests some small =
         judged = misfit n refl small refl;
         counted = refl;
       },
-      ap (λ s. begun s after.length (take after.got after.body)) rests,
+      ap (λ s. begun s after.body) rests,
     )
 
 -- a LENGTH that a frame can have is held, and the rest of the stretch is gathered
 pub goes_on : (r measured : Reader) (stretch after : List ℕ) (f : Option Found) (used : ℕ) → r.stage ≡ Start → 0 < length stretch → Sized (get_or stretch 0 0)
-    → (measured.stage ≡ Body) × (measured.length ≡ get_or stretch 0 0) × (measured.got ≡ 0)
+    → measured.stage ≡ Body (get_or stretch 0 0) 0
     → Reads (holds measured) (drop 1 stretch) f used after → Reads (holds r) stretch f (1 + used) after
 goes_on r measured [] after f used at_start some fits is reads = absurd (omega arith)
 goes_on r measured (n ∷ more) after f used at_start some fits is reads =
     reads_on (holds r) (holds measured) after (n ∷ more) 1 used f (omega arith)
     (waits_at r Start (n ∷ []) (holds measured) at_start
-    (subst (Waits (0xFF ∷ (0x02 ∷ (n ∷ [])))) (sym (λ i. begun (is.0 i) (is.1 i) (take (is.2 i) measured.body))) (waits_held (part n [] refl fits (omega arith))))) reads
+    (subst (Waits (0xFF ∷ (0x02 ∷ (n ∷ [])))) (sym (ap (λ s. begun s measured.body) is)) (waits_held (part n [] refl fits (omega arith))))) reads

@@ -2,10 +2,7 @@
 use Rattle.std.proofs.Common.{◌≡◌, ℕ, zero, suc, ◌+◌, ◌<◌, List, [], ◌∷◌, ◌++◌, length, get_or, take, sym, refl, ap, ◌∙◌, subst, append_assoc, append-nil, add-one, arith}
 use Rattle.std.proofs.lemmas.List.{take_more, take_all}
 use Rattle.frames.specs.Finding.{Quiet, none, sync, start, Waits}
-
--- no 0xFF among the first n bytes is directly followed by 0x02
-abbrev pub Unmarked : List ℕ → ℕ → Type 0
-Unmarked bytes n = (k : ℕ) → k < n → get_or bytes k 0 ≡ 0xFF → get_or bytes (k + 1) 0 ≡ 0x02 → ⊥
+use Rattle.frames.specs.Hunting.{Unmarked}
 
 unmarked_rest : (a : ℕ) (bytes : List ℕ) (n : ℕ) → Unmarked (a ∷ bytes) (suc n) → Unmarked bytes n
 unmarked_rest a bytes n u k h e f =

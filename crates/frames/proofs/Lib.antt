@@ -5,10 +5,10 @@ pub mod Joining
 pub mod Uniqueness
 pub mod Verdicts
 pub mod Hunting
+pub mod Stages
 pub mod Holding
 pub mod Gathering
 pub mod Appending
 pub mod Exactness
 pub mod RoundTrip
-pub mod Passing
 pub mod Searching

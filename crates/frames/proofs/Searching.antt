@@ -1,24 +1,24 @@
 -- The search of the sample cases finds what the finding rule finds.
-use Rattle.std.proofs.Common.{◌≡◌, ℕ, ◌+◌, ◌<◌, ◌≤◌, Bool, true, false, eqb, leb, ◌⊎◌, List, [], ◌∷◌, ◌++◌, length, take, drop, Some, None, unwrap_or, sym, refl, ap, ◌∙◌, subst, inl, inr, ⊎_elim, add-zero, zero-add, arith, take-append-drop, ne_eqb, le-leb}
+use Rattle.std.proofs.Common.{◌≡◌, ℕ, ◌+◌, ◌<◌, ◌≤◌, Bool, true, false, eqb, leb, ◌&&◌, ◌⊎◌, List, [], ◌∷◌, ◌++◌, length, take, drop, Some, None, unwrap_or, sym, refl, ap, ◌∙◌, subst, inl, inr, ⊎_elim, add-zero, zero-add, arith, take-append-drop, ne_eqb, le-leb}
 use borrow.Author.Tests.{lt-leb}
 use Rattle.std.proofs.lemmas.List.{length-take-le}
 use Rattle.std.proofs.lemmas.Bool.{cases_eq, cases_lt, cond-true, cond-false}
 use Rattle.frames.specs.declared.finding.Cause.TheVariants.{Length}
 use Rattle.frames.specs.Finding.{Found, dropped, Sized, verdict, Quiet, misfit, whole, Finds}
 use Rattle.frames.specs.Promises.{SearchIsTheRule}
-use Rattle.frames.specs.Samples.{both, judge_at, search_from}
+use Rattle.frames.specs.Samples.{judge_at, search_from}
 use Rattle.frames.proofs.Uniqueness.{Judged, unfit, full, opened}
 
-both_false : (x : Bool) → both x false ≡ false
+both_false : (x : Bool) → (x && false) ≡ false
 both_false true = refl
 both_false false = refl
 
 -- the test for 0xFF directly followed by 0x02
-no_start : (a b : ℕ) → (a ≡ 0xFF → b ≡ 0x02 → ⊥) → both (eqb a 0xFF) (eqb b 0x02) ≡ false
+no_start : (a b : ℕ) → (a ≡ 0xFF → b ≡ 0x02 → ⊥) → (eqb a 0xFF && eqb b 0x02) ≡ false
 no_start a b apart =
     ⊎_elim
-    (λ e. ⊎_elim (λ f. absurd (apart e f)) (λ f. ap (both (eqb a 0xFF)) (ne_eqb b 0x02 f) ∙ both_false (eqb a 0xFF)) (cases_eq b 0x02))
-    (λ e. ap (λ x. both x (eqb b 0x02)) (ne_eqb a 0xFF e))
+    (λ e. ⊎_elim (λ f. absurd (apart e f)) (λ f. ap (λ y. eqb a 0xFF && y) (ne_eqb b 0x02 f) ∙ both_false (eqb a 0xFF)) (cases_eq b 0x02))
+    (λ e. ap (λ x. x && eqb b 0x02) (ne_eqb a 0xFF e))
     (cases_eq a 0xFF)
 
 -- the search passes over noise
@@ -29,14 +29,14 @@ search_noise n (a ∷ b ∷ noise) rest q =
     cond-false _ _ _ (no_start a b q.0) ∙ search_noise (n + 1) (b ∷ noise) rest q.1
     ∙ ap (λ k. judge_at k rest) (let e : n + 1 + length (b ∷ noise) ≡ n + length (a ∷ b ∷ noise) = omega arith in e)
 
-fits_test : (size : ℕ) → Sized size → both (leb 4 size) (leb size 254) ≡ true
-fits_test size (low, high) = (λ i. both (le-leb 4 size low i) (le-leb size 254 high i))
+fits_test : (size : ℕ) → Sized size → (leb 4 size && leb size 254) ≡ true
+fits_test size (low, high) = (λ i. le-leb 4 size low i && le-leb size 254 high i)
 
-unfit_test : (size : ℕ) → (Sized size → ⊥) → both (leb 4 size) (leb size 254) ≡ false
+unfit_test : (size : ℕ) → (Sized size → ⊥) → (leb 4 size && leb size 254) ≡ false
 unfit_test size small =
     ⊎_elim
-    (λ lt. ap (λ x. both x (leb size 254)) (lt-leb 4 size lt))
-    (λ ge. ap (both (leb 4 size)) (lt-leb size 254 (⊎_elim (λ over. over) (λ under. absurd (small (ge, under))) (cases_lt 254 size))) ∙ both_false (leb 4 size))
+    (λ lt. ap (λ x. x && leb size 254) (lt-leb 4 size lt))
+    (λ ge. ap (λ y. leb 4 size && y) (lt-leb size 254 (⊎_elim (λ over. over) (λ under. absurd (small (ge, under))) (cases_lt 254 size))) ∙ both_false (leb 4 size))
     (cases_lt size 4)
 
 judged_at : (n size : ℕ) (tail : List ℕ) {v : Found} {many : ℕ} → Judged size tail v many → judge_at n (size ∷ tail) ≡ Some (v, n + many)

@@ -1,5 +1,5 @@
 -- The check value of a frame, bit by bit.
-use Rattle.std.specs.Prelude.{ℕ, zero, suc, ◌/◌, ◌%◌, cond, List, [], ◌∷◌, ◌==◌, bit_xor}
+use Rattle.std.specs.Prelude.{ℕ, zero, suc, ◌/◌, ◌%◌, cond, List, fold, ◌==◌, bit_xor}
 
 -- shifted right by one; if the bit that fell out was 1, exclusive-ored with 0x8408
 unfoldable pub shift_once : ℕ → ℕ
@@ -16,8 +16,7 @@ crc_byte r b = shift 8 (bit_xor r b)
 
 -- byte after byte, from the value r
 abbrev pub crc_from : ℕ → List ℕ → ℕ
-crc_from r [] = r
-crc_from r (b ∷ bs) = crc_from (crc_byte r b) bs
+crc_from r bytes = fold crc_byte r bytes
 
 -- the check value starts at 0
 abbrev pub crc_of : List ℕ → ℕ

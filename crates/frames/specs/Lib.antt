@@ -3,6 +3,8 @@ pub mod Frame
 pub mod Finding
 pub mod Writing
 pub mod Refusals
+pub mod Stages
+pub mod Hunting
 pub mod Reading
 pub mod Promises
 pub mod Samples

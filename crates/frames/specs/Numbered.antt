@@ -1,15 +1,10 @@
 -- Looking a record up by the number that it carries.
-use Rattle.std.specs.Prelude.{◌≡◌, ℕ, ◌+◌, ◌<◌, cond, List, [], ◌∷◌, length, Some, None, Option, ◌==◌, ◌≢◌, slice_index_or}
-
--- Counting places from `i` on, the place of the first record with the number.
-abbrev pub place_from : {R : Type 0} → (R → ℕ) → ℕ → ℕ → List R → Option ℕ
-place_from carried number i [] = None
-place_from carried number i (row ∷ rows) =
-    cond (carried row == number) (Some i) (place_from carried number (i + 1) rows)
+use Rattle.std.specs.Prelude.{◌≡◌, ℕ, ◌<◌, List, length, Some, None, Option, ◌==◌, ◌≢◌, slice_index_or}
+use Rattle.std.specs.List.{position_from}
 
 -- The place of the first record with the number.
 abbrev pub place_of : {R : Type 0} → (R → ℕ) → ℕ → List R → Option ℕ
-place_of carried number rows = place_from carried number 0 rows
+place_of carried number rows = position_from (λ row. carried row == number) 0 rows
 
 -- No record before this place has the number.
 abbrev pub NoneBefore : {R : Type 0} → (R → ℕ) → ℕ → List R → ℕ → Type 0

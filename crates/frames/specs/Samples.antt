@@ -1,32 +1,28 @@
 -- Cases worked out by hand, as one table: each row is a test that computes to true.
-use Rattle.std.specs.Prelude.{ℕ, ◌+◌, Bool, true, false, cond, List, [], ◌∷◌, length, take, Some, None, Option, ◌==◌, nat_le}
+use Rattle.std.specs.Prelude.{ℕ, ◌+◌, Bool, true, false, cond, ◌&&◌, List, [], ◌∷◌, length, take, Some, None, Option, ◌==◌, nat_le}
 use Rattle.frames.specs.declared.finding.Cause.{Cause}
 use Rattle.frames.specs.declared.finding.Cause.TheVariants.{Length, End, Check}
 use Rattle.frames.specs.Crc.{crc_of}
 use Rattle.frames.specs.Frame.{stored, frame_bytes}
 use Rattle.frames.specs.Finding.{Found, frame, dropped, verdict}
 
-abbrev pub both : Bool → Bool → Bool
-both true b = b
-both false b = false
-
 -- every row of a table is true
 abbrev pub all : List Bool → Bool
 all [] = true
-all (row ∷ rows) = both row (all rows)
+all (row ∷ rows) = row && all rows
 
 -- two lists of bytes are the same
 abbrev pub same : List ℕ → List ℕ → Bool
 same [] [] = true
 same [] (y ∷ ys) = false
 same (x ∷ xs) [] = false
-same (x ∷ xs) (y ∷ ys) = both (x == y) (same xs ys)
+same (x ∷ xs) (y ∷ ys) = x == y && same xs ys
 
 -- what a LENGTH and the bytes behind it come to, `n` bytes of noise before: the finding and how many bytes it uses
 abbrev pub judge_at : ℕ → List ℕ → Option (Found × ℕ)
 judge_at n [] = None
 judge_at n (size ∷ tail) =
-    cond (both (nat_le 4 size) (nat_le size 254))
+    cond (nat_le 4 size && nat_le size 254)
     (cond (nat_le size (length tail)) (Some (verdict size (take size tail), n + (size + 3))) None)
     (Some (dropped Length 3, n + 3))
 
@@ -34,7 +30,7 @@ judge_at n (size ∷ tail) =
 abbrev pub search_from : ℕ → List ℕ → Option (Found × ℕ)
 search_from n [] = None
 search_from n (a ∷ []) = None
-search_from n (a ∷ b ∷ bytes) = cond (both (a == 0xFF) (b == 0x02)) (judge_at n bytes) (search_from (n + 1) (b ∷ bytes))
+search_from n (a ∷ b ∷ bytes) = cond (a == 0xFF && b == 0x02) (judge_at n bytes) (search_from (n + 1) (b ∷ bytes))
 
 abbrev pub same_cause : Cause → Cause → Bool
 same_cause Length Length = true
@@ -48,15 +44,15 @@ same_cause Check End = false
 same_cause Check Check = true
 
 abbrev pub same_found : Found → Found → Bool
-same_found (frame c xs) (frame d ys) = both (c == d) (same xs ys)
+same_found (frame c xs) (frame d ys) = c == d && same xs ys
 same_found (frame c xs) (dropped d n) = false
 same_found (dropped c n) (frame d ys) = false
-same_found (dropped c n) (dropped d m) = both (same_cause c d) (n == m)
+same_found (dropped c n) (dropped d m) = same_cause c d && n == m
 
 -- the bytes hold this first, and it is over after so many of them
 abbrev pub gives : Option (Found × ℕ) → Found → ℕ → Bool
 gives None w m = false
-gives (Some (v, n)) w m = both (same_found v w) (n == m)
+gives (Some (v, n)) w m = same_found v w && n == m
 
 abbrev pub holds_first : List ℕ → Found → ℕ → Bool
 holds_first bytes v used = gives (search_from 0 bytes) v used

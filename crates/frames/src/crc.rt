@@ -40,11 +40,9 @@ fn stepped(value: u16, byte: u8) -> u16
 pub fn crc_on(value: u16, bytes: &[u8]) -> u16
     ensures { result ≡ crc_from value bytes.now }
 {
-    let mut value = value;
-    for b in bytes {
-        value = stepped(value, *b);
-    }
-    value
+    bytes
+        .iter()
+        .fold(value, |value, byte| stepped(value, *byte))
 }
 
 // The check value of a stretch of bytes.

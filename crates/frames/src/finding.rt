@@ -12,12 +12,12 @@ pub enum Cause {
     Check,
 }
 
+// What is found first: one of two things that a line can bring.
+// kept: (d) no `Result<Frame, Dropped>`, since a drop is a finding as a frame is, is counted and answered, and is never passed on by `?`.
 #[derive(Clone, Copy)]
 pub enum Finding {
     // a right frame
     Frame(Frame),
     // a candidate that is no frame, and how many bytes it had
     Dropped { cause: Cause, size: usize },
-    // nothing yet
-    Nothing,
 }

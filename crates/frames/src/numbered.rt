@@ -13,14 +13,10 @@ pub trait Numbered {
 }
 
 /// The place of the first record with this number, or that no record has it.
+// kept: (a) no map: one search of a lent slice, for rows and for places, is a form that the project asks for.
 pub fn find<T: Numbered>(rows: &[T], number: u32) -> Option<usize>
     ensures first { FirstNumbered T.Numbered.carried number rows.now result }
     ensures place { result ≡ place_of T.Numbered.carried number rows.now }
 {
-    for (place, row) in rows.iter().enumerate() {
-        if row.number() == number {
-            return Some(place);
-        }
-    }
-    None
+    rows.iter().position(|row| row.number() == number)
 }

@@ -1,5 +1,9 @@
 // A reader of frames: what it holds between calls.
-ghost use Rattle.std.specs.Prelude.{◌≡◌, ℕ, ◌<◌, ◌≤◌, length as long, slice_index};
+ghost use Rattle.std.specs.Prelude.{◌≡◌, ◌<◌, length, All};
+ghost use Rattle.std.proofs.Props.{props};
+ghost use Rattle.frames.specs.Stages.{Unfinished};
+
+use super::frame::MOST_LENGTH;
 
 mod gather;
 mod hunt;
@@ -16,19 +20,17 @@ pub enum Stage {
     // SYNC and STX are held, LENGTH is next
     Start,
     // SYNC, STX, LENGTH and `got` of the bytes that it announces are held
-    Body,
+    Body { length: usize, got: usize },
 }
 
+// kept: (a) no model: that of a `Copy` type may forget nothing, and what a reader holds forgets the rest of its array.
 #[derive(Clone, Copy)]
 pub struct Reader {
     stage: Stage,
-    // LENGTH and the bytes gathered behind it; of use at `Stage::Body` only
-    length: usize,
-    got: usize,
-    body: [u8; 254],
-    ghost least: { 4 ≤ length },
-    ghost most: { length ≤ 254 },
-    ghost open: { got < length },
-    ghost whole: { long body ≡ 254 },
-    ghost bytes: { (i : ℕ) → slice_index body i < 256 },
+    // the bytes gathered behind LENGTH
+    // kept: (a) no `ArrayVec<u8, 254>`, which is not Copy, as a reader is; and no Vec, since a pulse reads in fixed memory
+    body: [u8; MOST_LENGTH],
+    ghost open: { Unfinished stage },
+    ghost whole: { length body ≡ 254 },
+    ghost bytes: { All (λ b. b < 256) body } by { Prim.hlevel props },
 }

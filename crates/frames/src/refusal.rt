@@ -6,18 +6,16 @@ ghost use Rattle.frames.specs.Refusals.{refusal_number};
 #[derive(Clone, Copy, Debug, PartialEq, Eq)]
 pub enum Refusal {
     // more DATA bytes than a frame can carry
-    DataTooLong,
+    DataTooLong = 9,
     // the memory handed over is shorter than the frame
-    MemoryShort,
+    MemoryShort = 10,
 }
 
+// kept: (a) no trait over the refusals of all levels: each level numbers its own, and can be bought without the others.
 impl Refusal {
     pub fn number(self) -> u8
         ensures { result ≡ refusal_number self }
     {
-        match self {
-            Refusal::DataTooLong => 9,
-            Refusal::MemoryShort => 10,
-        }
+        self as u8
     }
 }

@@ -33,12 +33,12 @@ fn writes_and_refuses(rt: HostRuntime) {
 fn finds_a_frame_cut_in_two(rt: HostRuntime) -> Result<(), Fail> {
     let mut reader = Reader::new();
     let (finding, used) = reader.read(&ACK[0..4]);
-    assert!(rt; matches!(finding, Finding::Nothing));
+    assert!(rt; finding.is_none());
     assert_eq!(rt; (used, reader.held()), (4, 4));
     let (finding, used) = reader.read(&ACK[4..]);
     assert_eq!(rt; (used, reader.held()), (3, 0));
     match finding {
-        Finding::Frame(frame) => {
+        Some(Finding::Frame(frame)) => {
             assert_eq!(rt; (frame.cmd(), frame.data().len()), (0x06, 0));
             Ok(())
         },

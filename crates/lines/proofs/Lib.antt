@@ -1,6 +1,5 @@
 -- The arguments that several proofs share.
 pub mod RingBytes
-pub mod Stretches
-pub mod ScriptWalks
+pub mod Rising
 pub mod Draws
 pub mod Orders

@@ -1,7 +1,6 @@
 -- The bytes of a wire keep their order through every list of calls.
-use Rattle.std.proofs.Common.{◌≡◌, ℕ, List, [], ◌∷◌, ◌++◌, Some, None, Ok, Err, Option, Result, sym, ap, ◌∙◌, append_assoc, append-nil}
+use Rattle.std.proofs.Common.{◌≡◌, ℕ, List, [], ◌∷◌, ◌++◌, Some, None, Ok, Err, Option, Result, option_to_list, sym, ap, ◌∙◌, append_assoc, append-nil}
 use Rattle.lines.specs.declared.refusal.Refusal.{Refusal}
-use Rattle.lines.specs.Faults.{followed_by}
 use Rattle.lines.specs.Queues.{FirstOut, AllIn}
 use Rattle.lines.specs.Wires.{Wired}
 use Rattle.lines.specs.Runs.{Event, takes, puts, brings, carries, Step, History, made, ◌▸◌, Run, accepted, all_bytes, brought_by, taken_by, put_by, carried_by, InOrder, GoesOn}
@@ -28,7 +27,7 @@ goes_in size bytes (Ok _) {all} {out} {before} {after} side moves =
 goes_in size bytes (Err _) side moves = stays side moves.kept
 
 -- A byte that comes out at the front.
-comes_out : (answer : Option ℕ) {all out before after : List ℕ} → Side all out before → FirstOut before answer after → Side (all ++ []) (out ++ followed_by answer []) after
+comes_out : (answer : Option ℕ) {all out before after : List ℕ} → Side all out before → FirstOut before answer after → Side (all ++ []) (out ++ option_to_list answer) after
 comes_out (Some byte) {all} {out} {before} {after} side moves =
     record { order = append-nil all ∙ side.order ∙ ap (λ held. out ++ held) moves ∙ sym (append_assoc out (byte ∷ []) after) }
 comes_out None side moves = stays side (moves.1 ∙ sym moves.0)

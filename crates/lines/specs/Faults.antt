@@ -1,11 +1,10 @@
 -- What a script does to the bytes that pass.
-use Rattle.std.specs.Prelude.{◌≡◌, ℕ, ◌+◌, min, Bool, true, false, cond, List, [], ◌∷◌, length, Some, None, Option, ◌==◌, bit_xor, nat_le}
+use Rattle.std.specs.Prelude.{◌≡◌, ℕ, ◌+◌, min, Bool, true, false, cond, List, [], ◌∷◌, ◌++◌, length, Some, None, Option, ◌==◌, bit_xor, nat_le, find, option_map, option_to_list}
 use Rattle.lines.specs.declared.script.Entry.{Entry}
 
 -- The mask that the script has for a position, if it has one.
 abbrev pub mask_at : List Entry → ℕ → Option ℕ
-mask_at [] position = None
-mask_at (entry ∷ rest) position = cond (entry.position == position) (Some entry.mask) (mask_at rest position)
+mask_at script position = option_map (λ entry. entry.mask) (find (λ entry. entry.position == position) script)
 
 -- What a mask makes of a byte: 0 loses it, another is exclusive-ored into it.
 abbrev pub masked : Option ℕ → ℕ → Option ℕ
@@ -16,9 +15,13 @@ masked (Some mask) byte = cond (mask == 0) None (Some (bit_xor byte mask))
 abbrev pub spoiled : List Entry → ℕ → ℕ → Option ℕ
 spoiled script position byte = masked (mask_at script position) byte
 
--- The position behind one; 65,536 lies behind all of them and is followed by itself.
+-- The position behind all that a script can name.
+abbrev pub past_all : ℕ
+past_all = 65536
+
+-- The position behind one; the one behind all of them is followed by itself.
 abbrev pub next_position : ℕ → ℕ
-next_position position = min (position + 1) 65536
+next_position position = min (position + 1) past_all
 
 -- The position behind these bytes, the first of them at the given position.
 abbrev pub position_after : ℕ → List ℕ → ℕ
@@ -27,17 +30,12 @@ position_after position (byte ∷ rest) = position_after (next_position position
 
 -- A position is how many bytes have passed since the box was made, up to 65,536.
 abbrev pub PositionCountsBytes : Type 0
-PositionCountsBytes = (passed : List ℕ) → position_after 0 passed ≡ min (length passed) 65536
-
--- A byte that may have been lost, and the bytes behind it.
-abbrev pub followed_by : Option ℕ → List ℕ → List ℕ
-followed_by None rest = rest
-followed_by (Some byte) rest = byte ∷ rest
+PositionCountsBytes = (passed : List ℕ) → position_after 0 passed ≡ min (length passed) past_all
 
 -- What the script leaves of the bytes that pass, the first of them at the given position.
 abbrev pub faulted : List Entry → ℕ → List ℕ → List ℕ
 faulted script position [] = []
-faulted script position (byte ∷ rest) = followed_by (spoiled script position byte) (faulted script (next_position position) rest)
+faulted script position (byte ∷ rest) = option_to_list (spoiled script position byte) ++ faulted script (next_position position) rest
 
 -- Whether each position is above the one before it, and the first at least `least`.
 abbrev pub rising : ℕ → List Entry → Bool

@@ -1,10 +1,10 @@
 -- What a ring in a stretch of memory holds.
-use Rattle.std.specs.Prelude.{ℕ, min, List, ◌++◌, length, take, drop}
+use Rattle.std.specs.Prelude.{ℕ, List, ◌++◌, length, take, drop}
 use Rattle.lines.specs.declared.ring.Ring.{Ring}
 
--- The bytes from `head` on and round the end of the memory: as many as `len` says, and at most as many as the memory has.
+-- The bytes from `head` on and round the end of the memory, as many as `len` says.
 abbrev pub ring_bytes : List ℕ → ℕ → ℕ → List ℕ
-ring_bytes memory head len = take (min len (length memory)) (drop head memory ++ memory)
+ring_bytes memory head len = take len (drop head memory ++ memory)
 
 -- The bytes of a ring, the oldest first.
 abbrev pub held : Ring → List ℕ

@@ -1,8 +1,7 @@
 -- Every list of calls on a wire, and the order that its bytes keep.
-use Rattle.std.specs.Prelude.{◌≡◌, ℕ, List, [], ◌∷◌, ◌++◌, Ok, Err, Option, Result}
+use Rattle.std.specs.Prelude.{◌≡◌, ℕ, List, [], ◌∷◌, ◌++◌, Ok, Err, Option, Result, option_to_list}
 use Rattle.lines.specs.declared.refusal.Refusal.{Refusal}
 use Rattle.lines.specs.Meaning.{Taken, Put}
-use Rattle.lines.specs.Faults.{followed_by}
 use Rattle.lines.specs.Wires.{Wired, fresh, Brought, Carried}
 
 -- A call on a wire, at either end, with what it answered.
@@ -37,31 +36,23 @@ accepted bytes (Err _) = []
 
 -- The bytes that a call brought to the near end.
 abbrev pub brought_by : Event → List ℕ
-brought_by (takes _) = []
-brought_by (puts _ _) = []
 brought_by (brings byte answer) = accepted (byte ∷ []) answer
-brought_by (carries _) = []
+brought_by _ = []
 
 -- The bytes that a call took at the near end.
 abbrev pub taken_by : Event → List ℕ
-taken_by (takes answer) = followed_by answer []
-taken_by (puts _ _) = []
-taken_by (brings _ _) = []
-taken_by (carries _) = []
+taken_by (takes answer) = option_to_list answer
+taken_by _ = []
 
 -- The bytes that a call put at the near end.
 abbrev pub put_by : Event → List ℕ
-put_by (takes _) = []
 put_by (puts bytes answer) = accepted bytes answer
-put_by (brings _ _) = []
-put_by (carries _) = []
+put_by _ = []
 
 -- The bytes that a call carried off to the far end.
 abbrev pub carried_by : Event → List ℕ
-carried_by (takes _) = []
-carried_by (puts _ _) = []
-carried_by (brings _ _) = []
-carried_by (carries answer) = followed_by answer []
+carried_by (carries answer) = option_to_list answer
+carried_by _ = []
 
 -- The bytes of all calls of a history, in their order.
 abbrev pub all_bytes : (Event → List ℕ) → History → List ℕ

@@ -1,5 +1,5 @@
 -- What a fault box holds of its script, and what reading and loading one does.
-use Rattle.std.specs.Prelude.{◌≡◌, true, false, List, take, Ok, Err, Result}
+use Rattle.std.specs.Prelude.{◌≡◌, true, false, List, Ok, Err, Result}
 use Rattle.lines.specs.declared.refusal.Refusal.{Refusal}
 use Rattle.lines.specs.declared.script.Entry.{Entry}
 use Rattle.lines.specs.declared.script.Script.{Script}
@@ -8,7 +8,7 @@ use Rattle.lines.specs.Faults.{lawful_script}
 
 -- The entries of a script.
 abbrev pub scripted : Script → List Entry
-scripted script = take script.len script.entries
+scripted script = script.entries.items
 
 -- Reading gives the script with just these entries if they make one, and is refused with 14 otherwise.
 abbrev pub Read : List Entry → Result Script Refusal → Type 0

@@ -40,4 +40,4 @@ pub record Carried (before : Wired) (answer : Option ℕ) (after : Wired) : Type
 
 -- A wire's outgoing bytes never exceed its capacity.
 pub near_end_within : (wire : Wire) → length (near_end wire).outgoing ≤ (near_end wire).capacity
-near_end_within wire = simp length-take (omega arith)
+near_end_within wire = simp length-take (omega (arith, wire.outgoing.within))

@@ -1,17 +1,14 @@
 // A fault box: a line made of any other line, whose waiting bytes it loses or changes by a script.
-ghost use Rattle.std.specs.Prelude.{◌≡◌, List, [], ◌∷◌};
-ghost use Rattle.lines.specs.declared.script.Entry.{Entry};
-ghost use Rattle.lines.specs.Boxes.{boxed, box_line, box_fixed, EmptyScriptIsClear, TakenThrough, PutBelow};
-ghost use Rattle.lines.specs.Faults.{next_position, PositionCountsBytes};
-ghost use Rattle.lines.specs.Meaning.{Taken, Put};
-ghost use Rattle.lines.specs.Scripts.{scripted, Loaded};
+ghost use Rattle.std.specs.Prelude.{◌≤◌};
+ghost use Rattle.lines.specs.Faults.{past_all};
 
 use crate::far_end::FarEnd;
 use crate::line::Line;
 use crate::refusal::Refusal;
 use crate::script::{Entry, Script};
 
-// The position behind the last one that a script can name.
+// The position behind the last one that a script can name, where the count stops.
+// kept: (d) a count that stops is plainer than an `Option<u16>`, since the laws speak of it as the number of bytes taken.
 const PAST_ALL: u32 = 65_536;
 
 // The line below, the script, and the position of the next byte taken from below.
@@ -20,21 +17,27 @@ pub struct FaultBox<L> {
     below: L,
     script: Script,
     position: u32,
+    ghost counted: { position ≤ past_all },
 }
 
 impl<L: Line> FaultBox<L> {
+    ghost use Rattle.std.specs.Prelude.{◌≡◌, []};
+    ghost use Rattle.lines.specs.Boxes.{box_meaning, EmptyScriptIsClear};
+    ghost use Rattle.lines.specs.Faults.{PositionCountsBytes};
+    ghost use Rattle.lines.specs.Scripts.{scripted, Loaded};
+
     // A box around a line, with an empty script.
     pub fn new(below: L) -> Self
         ensures below { result.below ≡ below }
         ensures empty { scripted result.script ≡ [] }
         ensures first { result.position ≡ 0 }
-        ensures same { box_line (boxed L.Line.meaning result) ≡ L.Line.meaning below }
+        ensures same { box_meaning L.Line.meaning result ≡ L.Line.meaning below }
         ensures clear { EmptyScriptIsClear }
         ensures counting { PositionCountsBytes }
     {
         FaultBox {
             below,
-            script: Script::empty(),
+            script: Script::default(),
             position: 0,
         }
     }
@@ -45,7 +48,7 @@ impl<L: Line> FaultBox<L> {
         ensures below { self.new.below ≡ self.old.below }
         ensures position { self.new.position ≡ self.old.position }
     {
-        self.script = Script::read(entries)?;
+        self.script = Script::try_from(entries)?;
         Ok(())
     }
 
@@ -70,7 +73,12 @@ impl<L: Line> FaultBox<L> {
 }
 
 impl<L: Line> Line for FaultBox<L> {
-    ghost meaning = { λ b. box_line (boxed L.Line.meaning b) };
+    ghost use Rattle.std.specs.Prelude.{◌≡◌, List};
+    ghost use Rattle.lines.specs.declared.script.Entry.{Entry};
+    ghost use Rattle.lines.specs.Boxes.{boxed, box_meaning, box_fixed, TakenThrough, PutBelow};
+    ghost use Rattle.lines.specs.Meaning.{Taken, Put};
+
+    ghost meaning = { box_meaning L.Line.meaning };
 
     ghost within = { λ b. L.Line.within b.below };
 
@@ -79,13 +87,14 @@ impl<L: Line> Line for FaultBox<L> {
     ghost fixed = { box_fixed L.Line.fixed };
 
     fn take(&mut self) -> Option<u8>
-        ensures taken { Taken (box_line (boxed L.Line.meaning self.old)) result (box_line (boxed L.Line.meaning self.new)) }
+        ensures taken { Taken (box_meaning L.Line.meaning self.old) result (box_meaning L.Line.meaning self.new) }
         ensures fixed { box_fixed L.Line.fixed self.new ≡ box_fixed L.Line.fixed self.old }
         ensures through { TakenThrough (boxed L.Line.meaning self.old) result (boxed L.Line.meaning self.new) }
     {
+        // kept: (c) a loop, since `find_map` over `iter::from_fn` is not proved: its goal `find_map-requires-clause-finite` is `⊥`.
         while let Some(byte) = self.below.take() {
             let position = self.position;
-            self.position = next(position);
+            self.position = (position + 1).min(PAST_ALL);
             if let Some(out) = self.script.spoil(position, byte) {
                 return Some(out);
             }
@@ -94,7 +103,7 @@ impl<L: Line> Line for FaultBox<L> {
     }
 
     fn put(&mut self, bytes: &[u8]) -> Result<(), Refusal>
-        ensures put { Put (box_line (boxed L.Line.meaning self.old)) bytes.now result (box_line (boxed L.Line.meaning self.new)) }
+        ensures put { Put (box_meaning L.Line.meaning self.old) bytes.now result (box_meaning L.Line.meaning self.new) }
         ensures fixed { box_fixed L.Line.fixed self.new ≡ box_fixed L.Line.fixed self.old }
         ensures through { PutBelow (boxed L.Line.meaning self.old) bytes.now result (boxed L.Line.meaning self.new) }
     {
@@ -107,9 +116,12 @@ impl<L: Line> Line for FaultBox<L> {
 }
 
 impl<L: FarEnd> FarEnd for FaultBox<L> {
+    ghost use Rattle.std.specs.Prelude.{◌∷◌};
+    ghost use Rattle.lines.specs.Boxes.{box_setting};
+
     ghost wire = { λ b. L.FarEnd.wire b.below };
 
-    ghost boxes = { λ b. record { script = scripted b.script; position = b.position } ∷ L.FarEnd.boxes b.below };
+    ghost boxes = { λ b. box_setting b ∷ L.FarEnd.boxes b.below };
 
     fn bring(&mut self, byte: u8) -> Result<(), Refusal> {
         self.below.bring(byte)
@@ -117,16 +129,5 @@ impl<L: FarEnd> FarEnd for FaultBox<L> {
 
     fn carry(&mut self) -> Option<u8> {
         self.below.carry()
-    }
-}
-
-// The position behind one.
-fn next(position: u32) -> u32
-    ensures follows { result ≡ next_position position }
-{
-    if position < PAST_ALL {
-        position + 1
-    } else {
-        PAST_ALL
     }
 }

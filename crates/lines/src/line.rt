@@ -16,6 +16,7 @@ pub trait Line {
     ghost Fixture: { Type 0 };
 
     // That part of this line.
+    // kept: (d) each call says that it stays, since a type or a ghost field speaks of one state and not of two.
     ghost fixed: { Self → Fixture };
 
     // The first waiting byte, which is then gone, or none.

@@ -1,20 +1,26 @@
 // A ring of bytes in memory that its maker hands over: no byte is moved to make room.
-ghost use Rattle.std.specs.Prelude.{◌≡◌, ◌+◌, ◌<◌, [], ◌∷◌, ◌++◌, length};
-ghost use Rattle.lines.specs.Queues.{FirstOut, AllIn};
-ghost use Rattle.lines.specs.Rings.{ring_bytes, held, ring_size};
+ghost use Rattle.std.specs.Prelude.{◌≤◌, length};
 
 use crate::refusal::Refusal;
 
 // The first byte stands at `head`, and `len` bytes follow one another from there, round the end of the memory.
-// A head past the memory stands for its start, and a length past it for all of it.
+// kept: (d) no model: its view would be a pair, the bytes held and how many can be, and each clause would take it apart.
+// kept: (a) a length beside the memory: its maker hands the memory over, and no collection lies in lent memory.
+// A head at the end of the memory stands for its start.
 #[derive(Drop)]
 pub(crate) struct Ring<'a> {
     memory: &'a mut [u8],
     head: usize,
     len: usize,
+    ghost begins: { head ≤ length memory.now },
+    ghost within: { len ≤ length memory.now },
 }
 
 impl<'a> Ring<'a> {
+    ghost use Rattle.std.specs.Prelude.{◌≡◌, ◌+◌, ◌<◌, ◌≤◌, [], length};
+    ghost use Rattle.lines.specs.Queues.{FirstOut, AllIn};
+    ghost use Rattle.lines.specs.Rings.{held, ring_size};
+
     // An empty ring over the whole memory.
     pub(crate) fn new(memory: &'a mut [u8]) -> Self
         ensures empty { held result ≡ [] }
@@ -27,18 +33,11 @@ impl<'a> Ring<'a> {
         }
     }
 
-    // How many bytes the ring holds.
-    pub(crate) fn len(&self) -> usize
-        ensures counted { result ≡ length (held self.now) }
-    {
-        self.len.min(self.memory.len())
-    }
-
     // How many more bytes the ring can hold.
     pub(crate) fn room(&self) -> usize
         ensures left { result + length (held self.now) ≡ ring_size self.now }
     {
-        self.memory.len() - self.len()
+        self.memory.len() - self.len
     }
 
     // The oldest byte, which is then gone, or none.
@@ -46,14 +45,13 @@ impl<'a> Ring<'a> {
         ensures popped { FirstOut (held self.old) result (held self.new) }
         ensures sized { ring_size self.new ≡ ring_size self.old }
     {
-        let len = self.len();
-        if len == 0 {
+        if self.len == 0 {
             return None;
         }
-        let start = self.start();
-        let oldest = self.memory[start];
-        self.head = start + 1;
-        self.len = len - 1;
+        let first = self.place(0);
+        let oldest = self.memory[first];
+        self.head = first + 1;
+        self.len -= 1;
         Some(oldest)
     }
 
@@ -65,40 +63,26 @@ impl<'a> Ring<'a> {
         if self.room() < bytes.len() {
             return Err(Refusal::NoSpace);
         }
-        for byte in bytes {
-            self.push(*byte);
-        }
+        let len = self.len;
+        let start = self.place(len);
+        let (straight, round) = bytes.split_at(bytes.len().min(self.memory.len() - start));
+        self.memory[start..start + straight.len()].copy_from_slice(straight);
+        self.memory[0..round.len()].copy_from_slice(round);
+        self.len += bytes.len();
         Ok(())
     }
 
-    // Adds one byte behind the last.
-    fn push(&mut self, byte: u8)
-        requires { length (held self.old) < ring_size self.old }
-        ensures pushed { held self.new ≡ held self.old ++ byte ∷ [] }
-        ensures sized { ring_size self.new ≡ ring_size self.old }
+    // The place that `i` bytes from the head on lead to, round the end of the memory.
+    fn place(&self, i: usize) -> usize
+        requires { i ≤ ring_size self.now }
+        ensures straight { self.now.head + i < ring_size self.now → result ≡ self.now.head + i }
+        ensures round { ring_size self.now ≤ self.now.head + i → result + ring_size self.now ≡ self.now.head + i }
     {
-        let len = self.len();
-        let start = self.start();
-        let to_end = self.memory.len() - start;
-        let slot = if len < to_end {
-            start + len
+        let to_end = self.memory.len() - self.head;
+        if i < to_end {
+            self.head + i
         } else {
-            len - to_end
-        };
-        self.memory[slot] = byte;
-        self.head = start;
-        self.len = len + 1;
-    }
-
-    // Where the oldest byte stands; 0 where there is no memory.
-    fn start(&self) -> usize
-        ensures inside { 0 < ring_size self.now → result < ring_size self.now }
-        ensures same { ring_bytes self.now.memory.now result self.now.len ≡ held self.now }
-    {
-        if self.head < self.memory.len() {
-            self.head
-        } else {
-            0
+            i - to_end
         }
     }
 }

@@ -11,7 +11,7 @@ use Rattle.parameters.specs.Images.{same, start_of, width_of, field_in}
 use Rattle.parameters.proofs.EachParameter.{each_parameter}
 
 -- Each parameter is found by its number.
-numbered_own : (p : Parameter) → parameter_numbered (row_for p).number ≡ Some p
+pub numbered_own : (p : Parameter) → parameter_numbered (row_for p).number ≡ Some p
 numbered_own = each_parameter (λ p. parameter_numbered (row_for p).number ≡ Some p) refl refl refl refl refl refl refl refl refl refl
 
 -- Parameters with one number are one.

@@ -1,7 +1,6 @@
 -- A lawful value in its field: it fits, it is what the field is read as, and the field is sound.
-use Rattle.std.proofs.Common.{◌≡◌, ℕ, zero, suc, ◌-◌, ◌*◌, ◌≤◌, true, false, eqb, leb, List, [], ◌∷◌, ◌++◌, length, take, drop, replicate, refl, ap, ◌∙◌, append-nil, arith}
-use borrow.Rule.Slice.PartMut.{put_mid}
-use Rattle.std.proofs.lemmas.List.{take_at, drop_at, drop_all, length-drop}
+use Rattle.std.proofs.Common.{◌≡◌, ℕ, zero, suc, ◌-◌, ◌*◌, ◌≤◌, true, false, eqb, leb, List, [], ◌∷◌, ◌++◌, length, take, drop, replicate, refl, ap, ◌∙◌, arith}
+use Rattle.std.proofs.lemmas.List.{take_at, drop_at}
 use Rattle.std.proofs.lemmas.Bool.{and_parts, and_from, leb-true, eqb-true, both_ways}
 use Rattle.parameters.specs.declared.parameter.Lawful.{Lawful}
 use Rattle.parameters.specs.declared.parameter.Lawful.TheVariants.{AnyByte, ByteUpto, RouteUpto}
@@ -12,21 +11,6 @@ use Rattle.parameters.specs.Images.{width, width_of, used, blank, sound_field}
 -- A value in the image: its bytes, then 0 in the bytes that it does not use.
 abbrev pub field : Parameter → List ℕ → List ℕ
 field p value = value ++ replicate (width_of p - length value) 0
-
--- A value written at the start of a field, and 0 behind it.
-pub put_in_field : (bytes value zeros : List ℕ) → length value ≤ length bytes
-    → zeros ≡ replicate (length bytes - length value) 0
-    → put_mid (length value) (length bytes - length value) (put_mid 0 (length value - 0) bytes value) zeros
-    ≡ value ++ replicate (length bytes - length value) 0
-put_in_field bytes value zeros fits blanks =
-    let n = length value in
-    let rest : List ℕ = drop (n - 0) bytes in
-    let none : drop (length bytes - n) (drop n (value ++ rest)) ≡ [] =
-    ap (drop (length bytes - n)) (drop_at value rest n refl)
-    ∙ drop_all (length bytes - n) rest (simp length-drop (omega arith)) in
-    ap (λ front. front ++ (zeros ++ drop (length bytes - n) (drop n (value ++ rest)))) (take_at value rest n refl)
-    ∙ ap (λ behind. value ++ (zeros ++ behind)) none
-    ∙ ap (λ z. value ++ z) (append-nil zeros ∙ blanks)
 
 -- A lawful value fits its field.
 pub value_fits : (lawful : Lawful) (value : List ℕ) → admits lawful value ≡ true → length value ≤ width lawful

@@ -19,7 +19,7 @@ add_back m n less = omega arith
 
 module _ (bytes : List ℕ) (values : Values) (open_now : OpensTo bytes values) where
   -- The field of each parameter ends within the bytes.
-  pub reaches : (p : Parameter) → start_of p + width_of p ≤ length bytes
+  reaches : (p : Parameter) → start_of p + width_of p ≤ length bytes
   reaches p = omega (arith, leb-true (start_of p + width_of p) 268 (ends_within p), opened_length bytes open_now.opens)
 
   module _ (p : Parameter) (value : List ℕ) (ok : lawful_for p value ≡ true) where
@@ -62,7 +62,7 @@ module _ (bytes : List ℕ) (values : Values) (open_now : OpensTo bytes values) 
         ∙ open_now.tells q ∙ sym (cond-false (same q p) value (values q) apart))
         (cases_Bool (same q p))
 
-    pub put_opens : OpensTo after (λ q. cond (same q p) value (values q))
+    put_opens : OpensTo after (λ q. cond (same q p) value (values q))
     put_opens = record {
       opens = sym (not_refused after length_kept (sym (all_sound after sound_after parameters)));
       tells = tells_after;
@@ -91,9 +91,3 @@ module _ (image : List ℕ) (before after : Values) (number : ℕ) (row : Row) (
         opens = opens.opens;
         tells = λ q. opens.tells q ∙ written_there number p value known ok before q ∙ sym (held q);
       })
-
-  pub lies_within : OpensTo image before → s + k ≤ length image
-  lies_within open_now = omega (arith, reaches image before open_now p, starts, width_is)
-
-  pub value_is_short : length value ≤ k
-  value_is_short = omega (arith, width_is, value_fits (row_for p).lawful value (lawful_there number p value (row_found number row is).0 ok))

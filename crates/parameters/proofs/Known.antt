@@ -1,7 +1,7 @@
 -- What is known of a parameter that was found by its number.
 use Rattle.std.proofs.Common.{◌≡◌, ℕ, Bool, true, false, cond, ◌&&◌, eqb, List, [], ◌∷◌, Some, None, Option, sym, refl, ap, ◌∙◌, ⊎_elim, arith}
 use Rattle.std.specs.Option.{option_map}
-use Rattle.std.proofs.lemmas.Bool.{eqb-true, cond-true, cond-false, cases_Bool, and_right}
+use Rattle.std.proofs.lemmas.Bool.{eqb-true, cond-true, cond-false, cases_Bool}
 use Rattle.parameters.specs.declared.parameter.Parameter.{Parameter}
 use Rattle.parameters.specs.declared.parameter.Row.{Row}
 use Rattle.parameters.specs.Parameters.{row_for, parameters, numbered_in, parameter_numbered, row_numbered, lawful_for}
@@ -10,7 +10,7 @@ use Rattle.parameters.specs.Images.{same}
 use Rattle.parameters.proofs.EachParameter.{each_parameter}
 
 -- A row is of its parameter.
-own_row : (p : Parameter) → (row_for p).parameter ≡ p
+pub own_row : (p : Parameter) → (row_for p).parameter ≡ p
 own_row = each_parameter (λ p. (row_for p).parameter ≡ p) refl refl refl refl refl refl refl refl refl refl
 
 found : (o : Option Parameter) (row : Row) → Some row ≡ option_map row_for o → (o ≡ Some row.parameter) × (row ≡ row_for row.parameter)
@@ -38,7 +38,7 @@ has_number number p (q ∷ qs) is =
     (λ differs. has_number number p qs (sym (cond-false here (Some q) (numbered_in number qs) differs) ∙ is))
     (cases_Bool here)
 
-and_true : (x y : Bool) → y ≡ true → x ≡ (x && y)
+pub and_true : (x y : Bool) → y ≡ true → x ≡ (x && y)
 and_true true y is = sym is
 and_true false y is = refl
 
@@ -53,9 +53,3 @@ module _ (number : ℕ) (p : Parameter) (value : List ℕ) (is : parameter_numbe
       ap (λ t. cond t value (values q))
       (ap (eqb (row_for q).number) (has_number number p parameters is)
       ∙ and_true (eqb (row_for q).number number) (lawful number value) ok)
-
--- A write that is not lawful leaves each value.
-pub left_there : (number : ℕ) (value : List ℕ) (values : Values) (q : Parameter) → lawful number value ≡ false → after_write values number value q ≡ values q
-left_there number value values q unlawful =
-    cond-false (eqb (row_for q).number number && lawful number value) value (values q)
-    (and_right (eqb (row_for q).number number) (lawful number value) unlawful)

@@ -1,5 +1,4 @@
 mod EachParameter
-mod OneByte
 mod RouteForm
 mod Opening
 mod Refusing

@@ -1,30 +1,15 @@
--- Reading an image field by field: each field that is sound gives its value, and one that is not refuses the image.
-use Rattle.std.proofs.Common.{◌≡◌, ℕ, Bool, true, false, ◌&&◌, leb, List, [], ◌∷◌, ◌++◌, take, drop, is_ok, is_err, IfOk, Ok, Err, Result, sym, refl, ap, ◌∙◌, ⊎_elim}
-use Rattle.std.proofs.lemmas.Result.{IfOk-from_err}
-use Rattle.std.proofs.lemmas.Bool.{and_from, and_left, and_right, both_ways, cases_Bool}
-use Rattle.parameters.specs.declared.parameter.Lawful.TheVariants.{AnyByte, ByteUpto}
+-- Reading an image parameter by parameter: a field that is sound gives its value, and one that is not refuses the image.
+use Rattle.std.proofs.Common.{◌≡◌, ℕ, ◌+◌, ◌<◌, Bool, true, false, ◌||◌, cond, List, [], ◌∷◌, ◌++◌, length, take, drop, map, get_or, inl, inr, ◌⊎◌, is_ok, is_err, Ok, Err, Result, sym, refl, ap, ◌∙◌, subst, ⊎_elim}
+use Rattle.std.proofs.lemmas.Bool.{and_from, and_left, and_right, and_parts, both_ways, cases_Bool, cond-true, cond-false, or_cases, or_left, or_right}
+use Rattle.std.proofs.lemmas.List.{get_or-map, take_more}
+use Rattle.parameters.specs.declared.parameter.Row.{Row}
 use Rattle.parameters.specs.declared.parameter.Parameter.{Parameter}
 use Rattle.parameters.specs.declared.parameter.Parameter.TheVariants.{OwnPollingGroup, RadioAcknowledge, RelayRouteStatus, RelayRoute, PollingRoute, GroupNumber, PollingTime, UserTimeOut, ExchangeStatus, SwitchMode}
 use Rattle.parameters.specs.Parameters.{row_for, parameters, admits}
-use Rattle.parameters.specs.Images.{field_in, sound_field, sound_among}
-
-and_true : (x : Bool) → (x && true) ≡ x
-and_true true = refl
-and_true false = refl
-
--- A field of one byte is all value.
-pub one_of_one : (bytes : List ℕ) → take 1 bytes ≡ take 1 (take 1 bytes)
-one_of_one [] = refl
-one_of_one (b ∷ rest) = refl
-
--- A field of one byte is sound if the byte is lawful.
-pub any_field : (bytes : List ℕ) → admits AnyByte (take 1 bytes) ≡ sound_field AnyByte (take 1 bytes)
-any_field [] = refl
-any_field (b ∷ rest) = refl
-
-pub upto_field : (most : ℕ) (bytes : List ℕ) → admits (ByteUpto most) (take 1 bytes) ≡ sound_field (ByteUpto most) (take 1 bytes)
-upto_field most [] = refl
-upto_field most (b ∷ rest) = sym (and_true (leb b most && true))
+use Rattle.parameters.specs.Values.{Values, lawful, lawful_if}
+use Rattle.parameters.specs.Images.{same, start_of, width, used, blank, field_in, value_in, sound_field, sound_among}
+use Rattle.parameters.proofs.Apart.{same_is, numbered_own}
+use Rattle.parameters.proofs.Known.{own_row, and_true}
 
 -- Fields that are all sound make a sound image.
 pub all_sound : (image : List ℕ) → ((p : Parameter) → sound_field (row_for p).lawful (field_in image p) ≡ true)
@@ -53,20 +38,9 @@ among_all UserTimeOut = (take 7 parameters, drop 8 parameters, refl)
 among_all ExchangeStatus = (take 8 parameters, drop 9 parameters, refl)
 among_all SwitchMode = (take 9 parameters, drop 10 parameters, refl)
 
-false_image : (image : List ℕ) (p : Parameter) → sound_field (row_for p).lawful (field_in image p) ≡ false → sound_among image parameters ≡ false
+pub false_image : (image : List ℕ) (p : Parameter) → sound_field (row_for p).lawful (field_in image p) ≡ false → sound_among image parameters ≡ false
 false_image image p unlawful =
     let at = among_all p in ap (sound_among image) (sym at.2) ∙ unsound_among image p at.0 at.1 unlawful
-
--- What is refused is not answered.
-pub not_ok : {X E : Type 0} (r : Result X E) → is_err r ≡ true → is_ok r ≡ false
-not_ok (Ok x) err = sym err
-not_ok (Err y) err = refl
-
--- What reading answers where a field is not sound.
-pub refused_at : {X E : Type 0} (image : List ℕ) (p : Parameter) (r : Result X E) (Q : X → Type 0) → is_err r ≡ true
-    → sound_field (row_for p).lawful (field_in image p) ≡ false → (is_ok r ≡ sound_among image parameters) × IfOk r Q
-refused_at image p r Q err unlawful =
-    (not_ok r err ∙ sym (false_image image p unlawful), IfOk-from_err r Q err)
 
 -- In a sound image each field is sound.
 pub each_sound : (image : List ℕ) (p : Parameter) → sound_among image parameters ≡ true → sound_field (row_for p).lawful (field_in image p) ≡ true
@@ -74,3 +48,105 @@ each_sound image p sound =
     ⊎_elim (λ yes_field. yes_field)
     (λ unlawful. absurd (both_ways (sound_among image parameters) (false_image image p unlawful) sound))
     (cases_Bool (sound_field (row_for p).lawful (field_in image p)))
+
+-- Whether a parameter is one of some.
+abbrev pub one_of : Parameter → List Parameter → Bool
+one_of p [] = false
+one_of p (q ∷ qs) = same q p || one_of p qs
+
+-- The fields of some parameters are sound, and the values are those of the image.
+pub record ReadSoFar (image : List ℕ) (values : Values) (ps : List Parameter) : Type 0 where
+  pub sound : sound_among image ps ≡ true
+  pub held : (p : Parameter) → one_of p ps ≡ true → values p ≡ value_in image p
+
+one_more : (p q : Parameter) (ps : List Parameter) → one_of p (ps ++ q ∷ []) ≡ true → (same q p ≡ true) ⊎ (one_of p ps ≡ true)
+one_more p q [] is = or_cases (same q p) false is
+one_more p q (r ∷ ps) is =
+    ⊎_elim (λ first. inr (or_left (same r p) (one_of p ps) first))
+    (λ later. ⊎_elim (λ here. inl here) (λ before. inr (or_right (same r p) (one_of p ps) before)) (one_more p q ps later))
+    (or_cases (same r p) (one_of p (ps ++ q ∷ [])) is)
+
+sound_more : (image : List ℕ) (q : Parameter) (ps : List Parameter) → sound_among image ps ≡ true
+    → sound_field (row_for q).lawful (field_in image q) ≡ true → sound_among image (ps ++ q ∷ []) ≡ true
+sound_more image q [] sound here = and_from (sound_field (row_for q).lawful (field_in image q)) true here refl
+sound_more image q (p ∷ ps) sound here =
+    let parts = and_parts (sound_field (row_for p).lawful (field_in image p)) (sound_among image ps) sound in
+    and_from (sound_field (row_for p).lawful (field_in image p)) (sound_among image (ps ++ q ∷ [])) parts.0 (sound_more image q ps parts.1 here)
+
+-- One more parameter that was read.
+pub read_more : (image : List ℕ) (values after : Values) (ps : List Parameter) (q : Parameter) → ReadSoFar image values ps
+    → sound_field (row_for q).lawful (field_in image q) ≡ true
+    → ((p : Parameter) → after p ≡ cond (same q p) (value_in image q) (values p)) → ReadSoFar image after (ps ++ q ∷ [])
+read_more image values after ps q before here held = record {
+  sound = sound_more image q ps before.sound here;
+  held = λ p is.
+      ⊎_elim
+      (λ one. held p ∙ cond-true (same q p) (value_in image q) (values p) one ∙ ap (value_in image) (same_is q p one))
+      (λ other.
+      held p
+      ∙ ⊎_elim (λ one. cond-true (same q p) (value_in image q) (values p) one ∙ ap (value_in image) (same_is q p one))
+      (λ apart. cond-false (same q p) (value_in image q) (values p) apart ∙ before.held p other)
+      (cases_Bool (same q p)))
+      (one_more p q ps is);
+}
+
+-- The next parameter was read, by its row.
+pub read_next : (image : List ℕ) (values after : Values) (i : ℕ) (d : Row) → i < length parameters
+    → ReadSoFar image values (take i parameters)
+    → true ≡ sound_field (row_for (get_or (map row_for parameters) i d).parameter).lawful (field_in image (get_or (map row_for parameters) i d).parameter)
+    → ((p : Parameter) → after p ≡ cond (same (get_or (map row_for parameters) i d).parameter p)
+    (value_in image (get_or (map row_for parameters) i d).parameter) (values p))
+    → ReadSoFar image after (take (i + 1) parameters)
+read_next image values after i d within before here held =
+    let q = (get_or (map row_for parameters) i d).parameter in
+    let row = get_or-map row_for parameters i OwnPollingGroup d within in
+    let next : q ≡ get_or parameters i OwnPollingGroup = ap (λ r. r.parameter) row ∙ own_row (get_or parameters i OwnPollingGroup) in
+    subst (ReadSoFar image after)
+    (ap (λ p. take i parameters ++ p ∷ []) next ∙ sym (take_more parameters i OwnPollingGroup within))
+    (read_more image values after (take i parameters) q before (sym here) held)
+
+-- The next parameter refuses the image, by its row.
+pub refuse_next : (image : List ℕ) (i : ℕ) (d : Row)
+    → false ≡ sound_field (row_for (get_or (map row_for parameters) i d).parameter).lawful (field_in image (get_or (map row_for parameters) i d).parameter)
+    → sound_among image parameters ≡ false
+refuse_next image i d unsound = false_image image (get_or (map row_for parameters) i d).parameter (sym unsound)
+
+-- What is refused is not answered.
+pub not_ok : {X E : Type 0} (r : Result X E) → is_err r ≡ true → is_ok r ≡ false
+not_ok (Ok x) err = sym err
+not_ok (Err y) err = refl
+
+-- A part of an image, as the program cuts it out for a row.
+module _ (image : List ℕ) (row : Row) (s k : ℕ) (is : row ≡ row_for row.parameter)
+    (starts : s ≡ start_of row.parameter) (wide : k ≡ width row.lawful) where
+  abbrev p : Parameter
+  p = row.parameter
+
+  abbrev part : List ℕ
+  part = take k (drop s image)
+
+  lawful_is : row.lawful ≡ (row_for p).lawful
+  lawful_is = ap (λ r. r.lawful) is
+
+  part_is : part ≡ field_in image p
+  part_is = (λ i. take ((wide ∙ ap width lawful_is) i) (drop (starts i) image))
+
+  value_is : take (used row.lawful part) part ≡ value_in image p
+  value_is = (λ i. take (used (lawful_is i) (part_is i)) (part_is i))
+
+  blank_is : blank (drop (used row.lawful part) part) ≡ blank (drop (used (row_for p).lawful (field_in image p)) (field_in image p))
+  blank_is = (λ i. blank (drop (used (lawful_is i) (part_is i)) (part_is i)))
+
+  pub not_blank : blank (drop (used row.lawful part) part) ≡ false → sound_field (row_for p).lawful (field_in image p) ≡ false
+  not_blank differs =
+      and_right (admits (row_for p).lawful (value_in image p))
+      (blank (drop (used (row_for p).lawful (field_in image p)) (field_in image p))) (sym blank_is ∙ differs)
+
+  pub blank_behind : (value : List ℕ) → blank (drop (used row.lawful part) part) ≡ true → value ≡ take (used row.lawful part) part
+      → lawful row.number value ≡ sound_field (row_for p).lawful (field_in image p)
+  blank_behind value yes_blank at =
+      ap (λ n. lawful n value) (ap (λ r. r.number) is)
+      ∙ ap (λ o. lawful_if o value) (numbered_own p)
+      ∙ ap (admits (row_for p).lawful) (at ∙ value_is)
+      ∙ and_true (admits (row_for p).lawful (value_in image p))
+      (blank (drop (used (row_for p).lawful (field_in image p)) (field_in image p))) (sym blank_is ∙ yes_blank)

@@ -1,6 +1,6 @@
 -- Which refusal bytes get.
 use Rattle.std.proofs.Common.{◌≡◌, ℕ, true, false, cond, eqb, List, length, Some, None, Option, sym, ◌∙◌, ⊎_elim, arith}
-use Rattle.std.proofs.lemmas.Bool.{eq-eqb, ne_eqb, eqb-true, cond-true, cond-false, cases_Bool}
+use Rattle.std.proofs.lemmas.Bool.{eq-eqb, eqb-true, cond-true, cond-false, cases_Bool}
 use Rattle.parameters.specs.Parameters.{parameters}
 use Rattle.parameters.specs.Images.{refusal, sound_among}
 
@@ -8,9 +8,6 @@ module _ (image : List ℕ) where
   -- The refusal of bytes of the right length.
   abbrev judged : Option ℕ
   judged = cond (sound_among image parameters) None (Some 13)
-
-  pub wrong_length : (length image ≡ 268 → ⊥) → Some 12 ≡ refusal image
-  wrong_length differs = sym (cond-false (eqb (length image) 268) judged (Some 12) (ne_eqb (length image) 268 differs))
 
   right_length : length image ≡ 268 → judged ≡ refusal image
   right_length whole = sym (cond-true (eqb (length image) 268) judged (Some 12) (eq-eqb (length image) 268 whole))

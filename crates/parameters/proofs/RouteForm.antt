@@ -1,16 +1,14 @@
 -- The form of a route: how long it is, what stands at a place, and how it grows by an address.
-use Rattle.std.proofs.Common.{◌≡◌, ℕ, zero, suc, ◌+◌, ◌-◌, ◌*◌, ◌/◌, ◌%◌, ◌<◌, ◌≤◌, min, true, eqb, ltb, leb, List, [], ◌∷◌, ◌++◌, length, get_or, take, drop, set, Some, None, sym, ap, ◌∙◌, mod-lt, zero-add, arith, take-add}
+use Rattle.std.proofs.Common.{◌≡◌, ℕ, zero, suc, ◌+◌, ◌*◌, ◌/◌, ◌%◌, ◌<◌, ◌≤◌, ltb, List, [], ◌∷◌, length, get_or, Some, None, sym, ap, ◌∙◌, ⊎_elim, mod-lt, zero-add, arith}
 use native.Mathlib.Nat.{div-add-mod}
-use Rattle.std.specs.List.{flat_map}
-use Rattle.std.proofs.lemmas.List.{get_or_append_left, get_or-append-add, take_more_set, flat_map_more, take_rest, take_all, length-take-le}
-use Rattle.std.proofs.lemmas.Bool.{lt-ltb, le-ltb, le-leb, eq-eqb, and_from, cond-true, cond-false}
+use Rattle.std.specs.List.{flat_map, slice_get}
+use Rattle.std.proofs.lemmas.Option.{slice_get-get_or, slice_get_cases}
+use Rattle.std.proofs.lemmas.List.{get_or_append_left, get_or-append-add}
+use Rattle.std.proofs.lemmas.Bool.{lt-ltb, le-ltb, cond-true, cond-false}
 use Rattle.parameters.specs.declared.route.Address.{Address}
-use Rattle.parameters.specs.declared.parameter.Lawful.TheVariants.{RouteUpto}
-use Rattle.parameters.specs.Parameters.{admits}
 use Rattle.parameters.specs.Values.{byte_at}
 use Rattle.parameters.specs.Routes.{address_bytes, route_form}
 use Rattle.parameters.specs.Tables.{joined_length}
-use Rattle.parameters.proofs.OneByte.{Taken}
 
 -- A place within a value has a byte.
 pub byte_within : (value : List ℕ) (place : ℕ) → place < length value → byte_at value place ≡ Some (get_or value place 0)
@@ -19,6 +17,12 @@ byte_within value place within = cond-true (ltb place (length value)) _ _ (lt-lt
 -- A place past a value has none.
 pub byte_past : (value : List ℕ) (place : ℕ) → length value ≤ place → byte_at value place ≡ None
 byte_past value place past = cond-false (ltb place (length value)) _ _ (le-ltb place (length value) past)
+
+-- So the byte at a place is what the list has there.
+pub byte_got : (value : List ℕ) (place : ℕ) → slice_get value place ≡ byte_at value place
+byte_got value place =
+    ⊎_elim (λ found. slice_get-get_or value place 0 found.1 ∙ sym (byte_within value place found.1))
+    (λ past. past.1 ∙ sym (byte_past value place past.0)) (slice_get_cases value place).1
 
 -- A byte of the addresses is a byte of one of them.
 joined_byte : (addresses : List Address) (i j : ℕ) (d : Address) → i < length addresses → j < 6
@@ -51,42 +55,3 @@ pub none_behind : (addresses : List Address) (k : ℕ)
 none_behind addresses k past =
     let outside : length (route_form addresses) ≤ suc k = omega (arith, joined_length addresses, div-add-mod k 6) in
     sym (byte_past (route_form addresses) (suc k) outside)
-
--- One more address read is six more bytes used.
-pub one_more : (addresses : List Address) (bytes : List ℕ) (i : ℕ) (a : Address)
-    → i < length addresses → flat_map address_bytes (take i addresses) ≡ take (6 * i) bytes
-    → address_bytes a ≡ take 6 (drop (6 * i) bytes)
-    → flat_map address_bytes (take (i + 1) (set addresses i a)) ≡ take (6 * (i + 1)) bytes
-one_more addresses bytes i a within before read =
-    let further : 6 * (i + 1) ≡ 6 * i + 6 = omega arith in
-    ap (flat_map address_bytes) (take_more_set addresses i a within)
-    ∙ sym (flat_map_more address_bytes [] (take i addresses) a)
-    ∙ ap (λ xs. xs ++ address_bytes a) before
-    ∙ ap (λ xs. take (6 * i) bytes ++ xs) read
-    ∙ sym (take-add (6 * i) 6 bytes)
-    ∙ ap (λ n. take n bytes) (sym further)
-
--- What stands behind the first byte of a value, as the program cuts it out.
-abbrev pub behind : List ℕ → List ℕ
-behind value = take (length value - 1) (drop 1 value)
-
--- A route that has read all addresses behind a lawful count has the value for its form.
-pub route_taken : (most : ℕ) (value : List ℕ) (addresses : List Address) (before : List ℕ)
-    → 0 < length value → get_or value 0 0 ≤ most → length addresses ≡ most
-    → length (behind value) ≡ 6 * get_or value 0 0
-    → flat_map address_bytes (take (get_or value 0 0) addresses) ≡ take (6 * get_or value 0 0) (behind value)
-    → Taken (RouteUpto most) value (route_form (take (min (get_or value 0 0) most) addresses)) before
-route_taken most [] addresses before some few room whole read = absurd (omega arith)
-route_taken most (count ∷ bytes) addresses before some few room whole read =
-    let rest : behind (count ∷ bytes) ≡ bytes = take_rest (count ∷ bytes) 1 in
-    let long : length bytes ≡ 6 * count = ap length (sym rest) ∙ whole in
-    let admitted : admits (RouteUpto most) (count ∷ bytes) ≡ true =
-    and_from (leb count most) (eqb (length bytes) (6 * count)) (le-leb count most few) (eq-eqb (length bytes) (6 * count) long) in
-    let least : min count most ≡ count = omega arith in
-    let counted : length (take count addresses) ≡ count = length-take-le count addresses (omega arith) in
-    let all : take (6 * count) (behind (count ∷ bytes)) ≡ bytes =
-    ap (take (6 * count)) rest ∙ take_all (6 * count) bytes (omega arith) in
-    let form : route_form (take (min count most) addresses) ≡ count ∷ bytes =
-    ap (λ n. route_form (take n addresses)) least
-    ∙ (λ i. counted i ∷ (read ∙ all) i) in
-    record { taken = sym admitted; form = form ∙ sym (cond-true (admits (RouteUpto most) (count ∷ bytes)) (count ∷ bytes) before admitted) }

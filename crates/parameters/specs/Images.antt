@@ -1,5 +1,6 @@
 -- The image of a store: the values of the parameters in a fixed number of bytes.
 use Rattle.std.specs.Prelude.{◌≡◌, ℕ, ◌+◌, ◌*◌, Bool, true, cond, ◌&&◌, List, [], ◌∷◌, length, take, drop, Some, None, Option, ◌==◌, slice_index}
+use Rattle.std.specs.List.{list_all}
 use Rattle.parameters.specs.declared.parameter.Lawful.{Lawful}
 use Rattle.parameters.specs.declared.parameter.Lawful.TheVariants.{AnyByte, ByteUpto, RouteUpto}
 use Rattle.parameters.specs.declared.parameter.Parameter.{Parameter}
@@ -45,8 +46,7 @@ value_in image p = take (used (row_for p).lawful (field_in image p)) (field_in i
 
 -- Whether all bytes are 0.
 abbrev pub blank : List ℕ → Bool
-blank [] = true
-blank (b ∷ bytes) = b == 0 && blank bytes
+blank bytes = list_all (λ byte. byte == 0) bytes
 
 -- Whether a field begins with a lawful value and has only 0 behind it.
 abbrev pub sound_field : Lawful → List ℕ → Bool

@@ -1,9 +1,9 @@
 // The image store: handed-over bytes that are kept in step with the values.
-ghost use Rattle.std.specs.Prelude.{◌≡◌, ◌-◌, ◌≤◌, ◌++◌, length, replicate, IfOk};
+ghost use Rattle.std.specs.Prelude.{◌≡◌, ◌-◌, ◌<◌, ◌≤◌, ◌++◌, length, take, drop, replicate, is_ok, is_some, IfOk, IfSome};
 ghost use Rattle.parameters.specs.declared.parameter.Parameter.{Parameter};
-ghost use Rattle.parameters.specs.Images.{refusal, start_of, width, value_in};
-ghost use Rattle.parameters.specs.ImageStores.{InStep, cause, handed_bytes};
+ghost use Rattle.parameters.specs.Images.{OpensTo, blank, refusal, start_of, used, width, value_in};
 ghost use Rattle.parameters.specs.Tables.{table_held, table_sound};
+ghost use Rattle.parameters.specs.Values.{lawful, after_write};
 
 use super::parameter::{Lawful, Parameter, row_of};
 use super::refusal::Refusal;
@@ -17,8 +17,11 @@ pub const LENGTH: usize = 268;
 #[derive(Drop)]
 pub struct ImageStore<'a> {
     image: &'a mut [u8],
-    // The values at hand. A type that holds lent bytes carries no invariant about them, so lawfulness rests on these records.
+    // The values at hand.
+    // kept: (d) records beside the bytes: read from the bytes, each question would look for its field and take its value apart again.
     table: TableStore,
+    // The bytes are an image that opens to them.
+    pub ghost step: { OpensTo image.now (table_held table) },
 }
 
 /// Bytes that were not opened, handed back as they were.
@@ -29,6 +32,8 @@ pub struct Unopened<'a> {
 }
 
 impl<'a> ImageStore<'a> {
+    ghost use Rattle.parameters.specs.ImageStores.{InStep, cause, handed_bytes};
+
     /// Opens an image: the store holds the values in it.
     pub fn open(image: &'a mut [u8]) -> Result<ImageStore<'a>, Unopened<'a>>
         ensures cause { cause result ≡ refusal image.old }
@@ -42,6 +47,7 @@ impl<'a> ImageStore<'a> {
                 image,
             });
         }
+        // kept: (d) no `map` and `map_err`, since the bytes move into what is made in either arm.
         match TableStore::read(image) {
             Ok(table) => Ok(ImageStore { image, table }),
             Err(Unlawful) => Err(Unopened {
@@ -61,19 +67,47 @@ impl<'a> ImageStore<'a> {
 
 impl Lawful {
     // How many bytes the image gives such values.
-    fn width(self) -> usize
+    pub(crate) fn width(self) -> usize
         ensures width { result ≡ width self }
     {
         match self {
-            Lawful::AnyByte => 1,
-            Lawful::ByteUpto(_) => 1,
+            Lawful::AnyByte | Lawful::ByteUpto(_) => 1,
             Lawful::RouteUpto(most) => 1 + 6 * usize::from(most),
         }
     }
+
+    // How many bytes of a field the value in it uses: a route's first byte tells.
+    fn used(self, field: &[u8]) -> usize
+        requires { 0 < length field.now }
+        ensures used { result ≡ used self field.now }
+    {
+        match self {
+            Lawful::RouteUpto(_) => Lawful::RouteUpto(field[0]).width(),
+            single => single.width(),
+        }
+    }
+
+    // The value at the start of a field, if the field has only 0 behind it.
+    pub(crate) fn value_in(self, field: &[u8]) -> Option<&[u8]>
+        requires { 0 < length field.now }
+        ensures blank { is_some result ≡ blank (drop (used self field.now) field.now) }
+        ensures value { IfSome result (λ value. value.now ≡ take (used self field.now) field.now) }
+    {
+        let (value, unused) = field.split_at(self.used(field).min(field.len()));
+        is_blank(unused).then_some(value)
+    }
+}
+
+// Whether all bytes are 0.
+fn is_blank(bytes: &[u8]) -> bool
+    ensures blank { result ≡ blank bytes.now }
+{
+    bytes.iter().all(|byte| *byte == 0)
 }
 
 // Where the bytes of a parameter start in the image.
-fn start_of(parameter: Parameter) -> usize
+// kept: (c) tried: the widths of `ROWS` before it, by take_while, map and sum; the goals `sum-requires-clause-fits` and `returns` stay open.
+pub(crate) fn start_of(parameter: Parameter) -> usize
     ensures start { result ≡ start_of parameter }
 {
     match parameter {
@@ -101,7 +135,24 @@ fn put(field: &mut [u8], value: &[u8])
     field[used..end].fill(0);
 }
 
+// Writes a lawful value into the values at hand and into the image that opens to them; otherwise nothing changes.
+fn keep(table: &mut TableStore, image: &mut [u8], number: u8, value: &[u8]) -> Result<(), Unlawful>
+    requires { OpensTo image.old (table_held table.old) }
+    ensures taken { is_ok result ≡ lawful number value.now }
+    ensures held { (p : Parameter) → table_held table.new p ≡ after_write (table_held table.old) number value.now p }
+    ensures step { OpensTo image.new (table_held table.new) }
+{
+    let row = row_of(number).ok_or(Unlawful)?;
+    table.write(number, value)?;
+    let start = start_of(row.parameter);
+    let end = start + row.lawful.width();
+    put(&mut image[start..end], value);
+    Ok(())
+}
+
 impl<'a> Store for ImageStore<'a> {
+    ghost use Rattle.parameters.specs.ImageStores.{InStep};
+
     ghost held = { λ store. table_held store.table };
 
     ghost sound = { λ store. table_sound store.table };
@@ -117,16 +168,6 @@ impl<'a> Store for ImageStore<'a> {
     }
 
     fn write(&mut self, number: u8, value: &[u8]) -> Result<(), Unlawful> {
-        let Some(row) = row_of(number) else {
-            return Err(Unlawful);
-        };
-        self.table.write(number, value)?;
-        let start = start_of(row.parameter);
-        let end = start + row.lawful.width();
-        // Bytes that were opened reach as far.
-        if end <= self.image.len() {
-            put(&mut self.image[start..end], value);
-        }
-        Ok(())
+        keep(&mut self.table, self.image, number, value)
     }
 }

@@ -9,6 +9,7 @@ use super::store::{Store, Unlawful};
 use super::table::TableStore;
 
 /// A store made over any bytes.
+// kept: (d) no `Result<ImageStore, (TableStore, &mut [u8])>`: either is a store that was made, and neither is passed on by `?`.
 #[derive(Drop)]
 pub enum MadeStore<'a> {
     /// The bytes opened, and the store keeps its values in them.
@@ -41,6 +42,7 @@ impl<'a> MadeStore<'a> {
     }
 }
 
+// kept: (d) each call is a match of two arms; a common borrow of the table would be one more function, and serve two of the three.
 impl<'a> Store for MadeStore<'a> {
     ghost held = { made_held };
 

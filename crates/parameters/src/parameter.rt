@@ -5,7 +5,7 @@ ghost use Rattle.parameters.specs.Parameters.{parameter_numbered, row_numbered};
 use frames::numbered::{Numbered, find};
 
 /// A parameter of a card.
-#[derive(Clone, Copy)]
+#[derive(Clone, Copy, Debug, PartialEq, Eq)]
 pub enum Parameter {
     OwnPollingGroup,
     RadioAcknowledge,
@@ -20,7 +20,7 @@ pub enum Parameter {
 }
 
 /// Which values are lawful for a parameter.
-#[derive(Clone, Copy)]
+#[derive(Clone, Copy, Debug, PartialEq, Eq)]
 pub enum Lawful {
     /// Any one byte.
     AnyByte,
@@ -48,6 +48,12 @@ impl Numbered for Row {
     }
 }
 
+// How many addresses a relay route has at most.
+pub(crate) const MOST_RELAYS: usize = 3;
+
+// How many addresses a polling route has at most.
+pub(crate) const MOST_POLLED: usize = 40;
+
 /// The ten parameters in rising number.
 pub static ROWS: [Row; 10] = [
     Row {
@@ -71,13 +77,13 @@ pub static ROWS: [Row; 10] = [
     Row {
         number: 0x07,
         parameter: Parameter::RelayRoute,
-        lawful: Lawful::RouteUpto(3),
+        lawful: Lawful::RouteUpto(MOST_RELAYS as u8),
         first: 0,
     },
     Row {
         number: 0x08,
         parameter: Parameter::PollingRoute,
-        lawful: Lawful::RouteUpto(40),
+        lawful: Lawful::RouteUpto(MOST_POLLED as u8),
         first: 0,
     },
     Row {

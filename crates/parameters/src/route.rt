@@ -1,54 +1,59 @@
 // Routes: lists of radio addresses, as relays and polls use them.
-ghost use Rattle.std.specs.Prelude.{◌≡◌, ◌<◌, [], length, take, is_ok, if◌then◌else◌};
+ghost use Rattle.std.specs.Prelude.{◌≡◌, ◌*◌, ◌<◌, [], length};
 ghost use Rattle.parameters.specs.declared.parameter.Lawful.TheVariants.{RouteUpto};
 ghost use Rattle.parameters.specs.Parameters.{admits};
 ghost use Rattle.parameters.specs.Values.{byte_at};
-ghost use Rattle.parameters.specs.Images.{blank, sound_field, used};
-ghost use Rattle.parameters.specs.Routes.{address_bytes, stops, route_form};
 
 use super::store::Unlawful;
 use super::value::Value;
 
 /// The six bytes of a radio address.
-#[derive(Clone, Copy)]
+// kept: (a) six bytes, each of its own, as the slice pattern below names them; an array would change how callers make one.
+#[derive(Clone, Copy, Debug, PartialEq, Eq)]
 pub struct Address(pub u8, pub u8, pub u8, pub u8, pub u8, pub u8);
 
 /// A route of at most MOST addresses.
 #[derive(Clone, Copy)]
 pub struct Route<const MOST: usize> {
-    // A count past the table counts as the whole table.
+    // kept: (c) a count beside an array, not an ArrayVec, as a route is Copy; a count past the array counts as the whole array, and no ghost field bounds it: beside one, `ImageStore::open` gets no proof (a type argument holds a `&mut` and a struct that has a ghost field).
     count: u8,
     addresses: [Address; MOST],
 }
 
 impl Address {
-    // The address with these bytes; missing ones count as 0.
-    fn read(bytes: &[u8]) -> Address
-        ensures read { length bytes.now ≡ 6 → address_bytes result ≡ bytes.now }
-    {
-        match bytes {
-            [a, b, c, d, e, f] => Address(*a, *b, *c, *d, *e, *f),
-            _ => Address(0, 0, 0, 0, 0, 0),
-        }
-    }
+    ghost use Rattle.std.specs.List.{flat_map};
+    ghost use Rattle.parameters.specs.Routes.{address_bytes};
 
     /// A byte of the address, or that there is none.
     pub fn byte(self, place: usize) -> Option<u8>
         ensures byte { result ≡ byte_at (address_bytes self) place }
     {
-        match place {
-            0 => Some(self.0),
-            1 => Some(self.1),
-            2 => Some(self.2),
-            3 => Some(self.3),
-            4 => Some(self.4),
-            5 => Some(self.5),
-            _ => None,
+        [self.0, self.1, self.2, self.3, self.4, self.5]
+            .get(place)
+            .copied()
+    }
+
+    // Reads addresses, each out of six bytes.
+    fn read(addresses: &mut [Address], bytes: &[u8])
+        requires { length bytes.now ≡ 6 * length addresses.old }
+        ensures read { flat_map address_bytes addresses.new ≡ bytes.now }
+        ensures room { length addresses.new ≡ length addresses.old }
+    {
+        let mut unread = bytes;
+        for address in addresses {
+            // kept: (a) no chunks: data taken apart by a slice pattern of six named bytes and the rest is the form that the project asks for.
+            let [a, b, c, d, e, f, rest @ ..] = unread else {
+                unreachable!();
+            };
+            *address = Address(*a, *b, *c, *d, *e, *f);
+            unread = rest;
         }
     }
 }
 
 impl<const MOST: usize> Route<MOST> {
+    ghost use Rattle.parameters.specs.Routes.{stops};
+
     /// The route with no address.
     pub fn new() -> Route<MOST>
         ensures empty { stops result ≡ [] }
@@ -65,45 +70,13 @@ impl<const MOST: usize> Route<MOST> {
         ensures countable { length result.now < 256 }
     {
         let count = usize::from(self.count).min(MOST);
-        let whole = &self.addresses[..];
-        &whole[0..count]
+        &self.addresses[..count]
     }
-}
-
-impl<const MOST: usize> Route<MOST> {
-    // Becomes the route at the start of a field that has only 0 behind it; otherwise it stays.
-    pub(super) fn load(&mut self, field: &[u8]) -> Result<(), Unlawful>
-        ensures taken { is_ok result ≡ sound_field (RouteUpto MOST) field.now }
-        ensures form { route_form (stops self.new) ≡ (if sound_field (RouteUpto MOST) field.now then take (used (RouteUpto MOST) field.now) field.now else route_form (stops self.old)) }
-    {
-        let [count, ..] = field else {
-            return Err(Unlawful);
-        };
-        let used = 1 + 6 * usize::from(*count);
-        if field.len() < used {
-            return Err(Unlawful);
-        }
-        let (value, unused) = field.split_at(used);
-        if !is_blank(unused) {
-            return Err(Unlawful);
-        }
-        self.write(value)
-    }
-}
-
-// Whether all bytes are 0.
-fn is_blank(bytes: &[u8]) -> bool
-    ensures blank { result ≡ blank bytes.now }
-{
-    for byte in bytes {
-        if *byte != 0 {
-            return false;
-        }
-    }
-    true
 }
 
 impl<const MOST: usize> Value for Route<MOST> {
+    ghost use Rattle.parameters.specs.Routes.{stops, route_form};
+
     ghost form = { λ route. route_form (stops route) };
 
     ghost formed = { admits (RouteUpto MOST) };
@@ -125,15 +98,12 @@ impl<const MOST: usize> Value for Route<MOST> {
         let [count, rest @ ..] = value else {
             return Err(Unlawful);
         };
-        let count = *count;
-        let room = self.addresses[..].len();
-        if usize::from(count) > room || rest.len() != 6 * usize::from(count) {
+        let stops = usize::from(*count);
+        if stops > MOST || rest.len() != 6 * stops {
             return Err(Unlawful);
         }
-        for place in 0..usize::from(count) {
-            self.addresses[place] = Address::read(&rest[6 * place..6 * place + 6]);
-        }
-        self.count = count;
+        Address::read(&mut self.addresses[..stops], rest);
+        self.count = *count;
         Ok(())
     }
 }

@@ -5,7 +5,7 @@ ghost use Rattle.parameters.specs.Parameters.{lawful_for};
 ghost use Rattle.parameters.specs.Values.{Values, asked, byte_at, lawful, after_write};
 
 /// The write was not taken: no parameter has the number, or the value is not lawful for it.
-#[derive(Clone, Copy)]
+#[derive(Clone, Copy, Debug, PartialEq, Eq)]
 pub struct Unlawful;
 
 /// A store means a lawful value for each parameter.
@@ -20,6 +20,7 @@ pub trait Store {
     ghost over: { Self → List ℕ → Type 0 };
 
     /// How many bytes the value of the parameter with this number has: none if the number is unknown.
+    // kept: (a) a number, not an Option: the call that the project asks for, as an unknown number has no bytes; `byte` answers None for one.
     fn length(&self, number: u8) -> usize
         ensures length { result ≡ length (asked (held self.now) number) };
 
@@ -28,6 +29,7 @@ pub trait Store {
         ensures byte { result ≡ byte_at (asked (held self.now) number) place };
 
     /// Takes a lawful value for the parameter with this number, and leaves the others; otherwise nothing changes.
+    // kept: (d) `taken` and `held` stand in three contracts: each speaks of the values before and after a write, so no type can carry it.
     fn write(&mut self, number: u8, value: &[u8]) -> Result<(), Unlawful>
         ensures taken { is_ok result ≡ lawful number value.now }
         ensures held { (p : Parameter) → held self.new p ≡ after_write (held self.old) number value.now p }

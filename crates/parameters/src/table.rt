@@ -6,19 +6,20 @@ ghost use Rattle.parameters.specs.declared.parameter.Parameter.{Parameter};
 ghost use Rattle.parameters.specs.Parameters.{first_value};
 ghost use Rattle.parameters.specs.Tables.{table_held, table_sound};
 
-use super::parameter::{Parameter, parameter_of};
+use super::parameter::{MOST_POLLED, MOST_RELAYS, Parameter, parameter_of};
 use super::route::Route;
 use super::store::{Store, Unlawful};
 use super::value::{Reports, Value};
 
 /// A store that keeps each value as a record of its own.
+// kept: (d) no model: `held` of the trait `Store` is its view, and a model would say the same once more.
 #[derive(Clone, Copy)]
 pub struct TableStore {
     own_polling_group: u8,
     radio_acknowledge: bool,
     relay_route_status: bool,
-    relay_route: Route<3>,
-    polling_route: Route<40>,
+    relay_route: Route<MOST_RELAYS>,
+    polling_route: Route<MOST_POLLED>,
     group_number: u8,
     polling_time: u8,
     user_time_out: u8,
@@ -28,6 +29,7 @@ pub struct TableStore {
 
 impl TableStore {
     /// A store that holds the first values.
+    // kept: (d) the first values stand here with their types, and in `ROWS` as bytes: read from the bytes, a flag or `Reports` would be a conversion that could fail, and a byte an index into the table.
     pub fn new() -> TableStore
         ensures first { (p : Parameter) → table_held result p ≡ first_value p }
     {
@@ -46,6 +48,25 @@ impl TableStore {
     }
 }
 
+// Calls a method of the value of the parameter with a number; `unknown` if there is no such parameter.
+macro_rules! of_value {
+    ($table:expr, $number:expr, $unknown:expr, $method:ident($($argument:expr),*)) => {
+        match parameter_of($number) {
+            None => $unknown,
+            Some(Parameter::OwnPollingGroup) => $table.own_polling_group.$method($($argument),*),
+            Some(Parameter::RadioAcknowledge) => $table.radio_acknowledge.$method($($argument),*),
+            Some(Parameter::RelayRouteStatus) => $table.relay_route_status.$method($($argument),*),
+            Some(Parameter::RelayRoute) => $table.relay_route.$method($($argument),*),
+            Some(Parameter::PollingRoute) => $table.polling_route.$method($($argument),*),
+            Some(Parameter::GroupNumber) => $table.group_number.$method($($argument),*),
+            Some(Parameter::PollingTime) => $table.polling_time.$method($($argument),*),
+            Some(Parameter::UserTimeOut) => $table.user_time_out.$method($($argument),*),
+            Some(Parameter::ExchangeStatus) => $table.exchange_status.$method($($argument),*),
+            Some(Parameter::SwitchMode) => $table.switch_mode.$method($($argument),*),
+        }
+    };
+}
+
 impl Store for TableStore {
     ghost held = { table_held };
 
@@ -54,50 +75,14 @@ impl Store for TableStore {
     ghost over = { λ _ _. Unit {0} };
 
     fn length(&self, number: u8) -> usize {
-        match parameter_of(number) {
-            None => 0,
-            Some(Parameter::OwnPollingGroup) => self.own_polling_group.length(),
-            Some(Parameter::RadioAcknowledge) => self.radio_acknowledge.length(),
-            Some(Parameter::RelayRouteStatus) => self.relay_route_status.length(),
-            Some(Parameter::RelayRoute) => self.relay_route.length(),
-            Some(Parameter::PollingRoute) => self.polling_route.length(),
-            Some(Parameter::GroupNumber) => self.group_number.length(),
-            Some(Parameter::PollingTime) => self.polling_time.length(),
-            Some(Parameter::UserTimeOut) => self.user_time_out.length(),
-            Some(Parameter::ExchangeStatus) => self.exchange_status.length(),
-            Some(Parameter::SwitchMode) => self.switch_mode.length(),
-        }
+        of_value!(self, number, 0, length())
     }
 
     fn byte(&self, number: u8, place: usize) -> Option<u8> {
-        match parameter_of(number) {
-            None => None,
-            Some(Parameter::OwnPollingGroup) => self.own_polling_group.byte(place),
-            Some(Parameter::RadioAcknowledge) => self.radio_acknowledge.byte(place),
-            Some(Parameter::RelayRouteStatus) => self.relay_route_status.byte(place),
-            Some(Parameter::RelayRoute) => self.relay_route.byte(place),
-            Some(Parameter::PollingRoute) => self.polling_route.byte(place),
-            Some(Parameter::GroupNumber) => self.group_number.byte(place),
-            Some(Parameter::PollingTime) => self.polling_time.byte(place),
-            Some(Parameter::UserTimeOut) => self.user_time_out.byte(place),
-            Some(Parameter::ExchangeStatus) => self.exchange_status.byte(place),
-            Some(Parameter::SwitchMode) => self.switch_mode.byte(place),
-        }
+        of_value!(self, number, None, byte(place))
     }
 
     fn write(&mut self, number: u8, value: &[u8]) -> Result<(), Unlawful> {
-        match parameter_of(number) {
-            None => Err(Unlawful),
-            Some(Parameter::OwnPollingGroup) => self.own_polling_group.write(value),
-            Some(Parameter::RadioAcknowledge) => self.radio_acknowledge.write(value),
-            Some(Parameter::RelayRouteStatus) => self.relay_route_status.write(value),
-            Some(Parameter::RelayRoute) => self.relay_route.write(value),
-            Some(Parameter::PollingRoute) => self.polling_route.write(value),
-            Some(Parameter::GroupNumber) => self.group_number.write(value),
-            Some(Parameter::PollingTime) => self.polling_time.write(value),
-            Some(Parameter::UserTimeOut) => self.user_time_out.write(value),
-            Some(Parameter::ExchangeStatus) => self.exchange_status.write(value),
-            Some(Parameter::SwitchMode) => self.switch_mode.write(value),
-        }
+        of_value!(self, number, Err(Unlawful), write(value))
     }
 }

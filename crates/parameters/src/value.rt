@@ -1,9 +1,10 @@
 // Values of parameters as types, each with a form in bytes.
-ghost use Rattle.std.specs.Prelude.{◌≡◌, ℕ, Bool, List, length, is_ok, if◌then◌else◌};
+ghost use Rattle.std.specs.Prelude.{◌≡◌, ℕ, Bool, true, List, [], ◌∷◌, length, is_ok, is_some, IfSome, if◌then◌else◌};
+ghost use Rattle.parameters.specs.declared.parameter.Lawful.{Lawful};
 ghost use Rattle.parameters.specs.declared.parameter.Lawful.TheVariants.{AnyByte, ByteUpto};
 ghost use Rattle.parameters.specs.Parameters.{admits};
 ghost use Rattle.parameters.specs.Values.{byte_at};
-ghost use Rattle.parameters.specs.Forms.{byte_form, flag_form, status_form};
+ghost use Rattle.parameters.specs.Forms.{byte_form, flag_byte, status_byte, single_any, single_upto};
 
 use super::store::Unlawful;
 
@@ -29,8 +30,88 @@ pub trait Value {
         ensures form { form self.new ≡ (if formed value.now then value.now else form self.old) };
 }
 
+/// A value for which one byte stands.
+// kept: (d) a conversion of our own: `TryFrom<u8>` cannot be given to a bool here, and one trait serves all three types.
+pub trait Coded {
+    // The byte that stands for a value.
+    ghost code: { Self → ℕ };
+
+    // Which values of a parameter of this type are lawful.
+    ghost lawful: { Lawful };
+
+    // They have one byte each.
+    ghost single: { (value : List ℕ) → admits lawful value ≡ true → length value ≡ 1 };
+
+    /// The byte that stands for the value.
+    fn code(self) -> u8
+        ensures code { result ≡ code self };
+
+    /// The value for which a byte stands, if the byte is lawful.
+    fn from_code(byte: u8) -> Option<Self>
+        ensures lawful { is_some result ≡ admits lawful (byte ∷ []) }
+        ensures value { IfSome result (λ value. code value ≡ byte) };
+}
+
+impl<C: Coded + Copy> Value for C {
+    ghost form = { λ value. byte_form (C.Coded.code value) };
+
+    ghost formed = { admits C.Coded.lawful };
+
+    fn length(&self) -> usize {
+        1
+    }
+
+    fn byte(&self, place: usize) -> Option<u8> {
+        if place == 0 { Some(self.code()) } else { None }
+    }
+
+    fn write(&mut self, value: &[u8]) -> Result<(), Unlawful> {
+        let [byte] = value else {
+            return Err(Unlawful);
+        };
+        *self = C::from_code(*byte).ok_or(Unlawful)?;
+        Ok(())
+    }
+}
+
+impl Coded for u8 {
+    ghost code = { λ byte. byte };
+
+    ghost lawful = { AnyByte };
+
+    ghost single = { single_any };
+
+    fn code(self) -> u8 {
+        self
+    }
+
+    fn from_code(byte: u8) -> Option<u8> {
+        Some(byte)
+    }
+}
+
+impl Coded for bool {
+    ghost code = { flag_byte };
+
+    ghost lawful = { ByteUpto 1 };
+
+    ghost single = { single_upto 1 };
+
+    fn code(self) -> u8 {
+        u8::from(self)
+    }
+
+    fn from_code(byte: u8) -> Option<bool> {
+        match byte {
+            0 => Some(false),
+            1 => Some(true),
+            _ => None,
+        }
+    }
+}
+
 /// Which frames about exchanges a card sends on its own.
-#[derive(Clone, Copy)]
+#[derive(Clone, Copy, Debug, PartialEq, Eq)]
 pub enum Reports {
     Neither,
     Errors,
@@ -38,76 +119,24 @@ pub enum Reports {
     Both,
 }
 
-impl Value for u8 {
-    ghost form = { byte_form };
+impl Coded for Reports {
+    ghost code = { status_byte };
 
-    ghost formed = { admits AnyByte };
+    ghost lawful = { ByteUpto 3 };
 
-    fn length(&self) -> usize {
-        1
+    ghost single = { single_upto 3 };
+
+    fn code(self) -> u8 {
+        self as u8
     }
 
-    fn byte(&self, place: usize) -> Option<u8> {
-        if place == 0 { Some(*self) } else { None }
-    }
-
-    fn write(&mut self, value: &[u8]) -> Result<(), Unlawful> {
-        let [byte] = value else {
-            return Err(Unlawful);
-        };
-        *self = *byte;
-        Ok(())
-    }
-}
-
-impl Value for bool {
-    ghost form = { flag_form };
-
-    ghost formed = { admits (ByteUpto 1) };
-
-    fn length(&self) -> usize {
-        1
-    }
-
-    fn byte(&self, place: usize) -> Option<u8> {
-        if place == 0 {
-            Some(u8::from(*self))
-        } else {
-            None
+    fn from_code(byte: u8) -> Option<Reports> {
+        match byte {
+            0 => Some(Reports::Neither),
+            1 => Some(Reports::Errors),
+            2 => Some(Reports::Statuses),
+            3 => Some(Reports::Both),
+            _ => None,
         }
-    }
-
-    fn write(&mut self, value: &[u8]) -> Result<(), Unlawful> {
-        *self = match value {
-            [0] => false,
-            [1] => true,
-            _ => return Err(Unlawful),
-        };
-        Ok(())
-    }
-}
-
-impl Value for Reports {
-    ghost form = { status_form };
-
-    ghost formed = { admits (ByteUpto 3) };
-
-    fn length(&self) -> usize {
-        1
-    }
-
-    fn byte(&self, place: usize) -> Option<u8> {
-        if place == 0 { Some(*self as u8) } else { None }
-    }
-
-    fn write(&mut self, value: &[u8]) -> Result<(), Unlawful> {
-        *self = match value {
-            [0] => Reports::Neither,
-            [1] => Reports::Errors,
-            [2] => Reports::Statuses,
-            [3] => Reports::Both,
-            _ => return Err(Unlawful),
-        };
-        Ok(())
     }
 }

@@ -3,6 +3,7 @@ use Rattle.std.proofs.Common.{◌≡◌, ℕ, ◌≤◌, false, List, [], ◌∷
 use Rattle.std.specs.List.{AllByRecursion}
 use Rattle.std.proofs.lemmas.Bool.{cond_both}
 use Rattle.lines.specs.Meaning.{Meaning}
+use Rattle.std.proofs.lemmas.List.{map-append}
 use Rattle.station.specs.Inquiries.{Outcome, Inquiry, written, own_frame, is_due}
 use Rattle.station.specs.Exchange.{begun}
 use Rattle.station.specs.Stations.{Slip, Station, has_space, first, replies, attempts, up_to_step_three, Pulsed}
@@ -12,7 +13,7 @@ use Rattle.station.proofs.Turns.{Over, Unbegun, all_map, all_join, tries, moved,
 use Rattle.station.proofs.Pulses.{Queue, Moves, rests, starts, continues, finishes, hands_over, pulse_moves, opened_under_way, one_more}
 use Rattle.station.proofs.Lookups.{in_left, in_right}
 use Rattle.station.proofs.Copies.{at_most_four, moved_counted, attempt_counted, sent_now}
-use Rattle.station.proofs.Books.{tally_of, tallies, Sound, Books, map_join, last_sends, page}
+use Rattle.station.proofs.Books.{tally_of, tallies, Sound, Books, last_sends, page}
 
 some_is : {x y : Inquiry} → Some x ≡ Some y → x ≡ y
 some_is e = cc
@@ -48,7 +49,7 @@ module _ (h : History) (b s : Station) (line line_after : Meaning) (books : Book
         sound = ((attempt_counted (has_space line.capacity out (written (own_frame q))) q.stage q.copies sound.0, sound.1), sounds);
         few = few;
         entered = entered;
-        lodged = books.lodged ∙ ap (map (λ t. t.lodging)) same ∙ map_join _ done (tallies b.mark (q ∷ more)) ∙ sym (map_join _ done (tallies b.mark (tries line.capacity out q ∷ more)));
+        lodged = books.lodged ∙ ap (map (λ t. t.lodging)) same ∙ map-append _ done (tallies b.mark (q ∷ more)) ∙ sym (map-append _ done (tallies b.mark (tries line.capacity out q ∷ more)));
         sent = new.sent ∙ ap (λ l. l ++ sent_now line.capacity out (if_due q)) (books.sent ∙ ap all_copies same) ∙ sym (last_sends b.mark line.capacity out done q more wait);
         handed = handed_later done grown;
       }

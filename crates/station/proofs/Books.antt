@@ -53,10 +53,6 @@ pub tallies_join : (mark : ℕ) (xs ys : List Inquiry) → tallies mark (xs ++ y
 tallies_join mark [] ys = refl
 tallies_join mark (x ∷ xs) ys = ap (λ l. tally_of mark x ∷ l) (tallies_join mark xs ys)
 
-pub map_join : {X Y : Type 0} (f : X → Y) (xs ys : List X) → map f (xs ++ ys) ≡ map f xs ++ map f ys
-map_join f [] ys = refl
-map_join f (x ∷ xs) ys = ap (λ l. f x ∷ l) (map_join f xs ys)
-
 -- the first of the queue puts its frame behind all that was put
 pub last_sends : (mark capacity : ℕ) (outgoing : List ℕ) (done : List Tally) (q : Inquiry) (more : List Inquiry) → AllByRecursion Unbegun more
     → all_copies (done ++ tallies mark (tries capacity outgoing q ∷ more)) ≡ all_copies (done ++ tallies mark (q ∷ more)) ++ sent_now capacity outgoing (if_due q)

@@ -1,5 +1,6 @@
 -- The count of copies: how far it can have come at each stage, and which frames a pulse puts.
-use Rattle.std.proofs.Common.{◌≡◌, ℕ, zero, suc, ◌+◌, ◌≤◌, Bool, true, false, cond, eqb, leb, List, [], ◌∷◌, ◌++◌, length, replicate, Some, None, Option, sym, refl, ap, ◌∙◌, subst, append_assoc, append-nil, add-one, arith}
+use Rattle.std.proofs.lemmas.List.{replicate-append-replicate}
+use Rattle.std.proofs.Common.{◌≡◌, ℕ, ◌+◌, ◌≤◌, Bool, true, false, cond, eqb, leb, List, [], ◌∷◌, ◌++◌, length, replicate, Some, None, Option, sym, refl, ap, ◌∙◌, subst, append_assoc, append-nil, arith}
 use Rattle.std.proofs.lemmas.Bool.{cond_both, cond-true, cond-false, and_left, or_from, ne_eqb}
 use Rattle.frames.specs.Finding.{Found, frame, dropped}
 use Rattle.frames.specs.declared.finding.Cause.TheVariants.{Length, End, Check}
@@ -130,13 +131,6 @@ request_plain c d lodged =
     (or_from _ _ (and_left _ _ (apart_from c (length d) 0x15 lodged (λ e. let z : ◌≡◌ {A = ℕ} 0 1 = cc in omega arith)))
     (and_left _ _ (apart_from c (length d) 0x00 lodged (λ e. let z : ◌≡◌ {A = ℕ} 0 1 = cc in omega arith))))
 
-replicate_suc : {X : Type 0} (n : ℕ) (x : X) → replicate (suc n) x ≡ replicate n x ++ (x ∷ [])
-replicate_suc zero x = refl
-replicate_suc (suc n) x = ap (λ l. x ∷ l) (replicate_suc n x)
-
-replicate_last : {X : Type 0} (n : ℕ) (x : X) → replicate (n + 1) x ≡ replicate n x ++ (x ∷ [])
-replicate_last n x = ap (λ m. replicate m x) (add-one n) ∙ replicate_suc n x
-
 -- an attempt that puts its frame adds one copy
 pub copies_more : (capacity : ℕ) (outgoing : List ℕ) (q : Inquiry) (now : Stage)
     → replicate (counted (has_space capacity outgoing (written (own_frame q))) now q.copies) (own_frame q)
@@ -149,5 +143,5 @@ copies_more capacity outgoing q (ended e) = sym (append-nil (replicate q.copies 
 copies_more capacity outgoing q (due k) =
     cond_both (has_space capacity outgoing (written (own_frame q))) _ _
     (λ l. replicate (cond (has_space capacity outgoing (written (own_frame q))) (q.copies + 1) q.copies) (own_frame q) ≡ replicate q.copies (own_frame q) ++ l)
-    (λ e. ap (λ m. replicate m (own_frame q)) (cond-true _ _ _ e) ∙ replicate_last q.copies (own_frame q))
+    (λ e. ap (λ m. replicate m (own_frame q)) (cond-true _ _ _ e) ∙ sym (replicate-append-replicate q.copies 1 (own_frame q)))
     (λ e. ap (λ m. replicate m (own_frame q)) (cond-false _ _ _ e) ∙ sym (append-nil (replicate q.copies (own_frame q))))

@@ -29,7 +29,7 @@ mod FramesPut
 mod Attempting
 mod Draining
 mod Looking
-mod AttemptsMade
+mod Firsts
+mod Alone
 mod HeardOn
 mod Holding
-mod Collecting

@@ -1,5 +1,6 @@
 -- What pulse after pulse reads is what all the bytes taken since a silence hold.
-use Rattle.std.proofs.Common.{◌≡◌, ℕ, suc, ◌+◌, ◌-◌, ◌<◌, ◌≤◌, List, [], ◌∷◌, ◌++◌, length, take, drop, Some, None, Ok, Err, Option, Result, sym, refl, ap, ◌∙◌, subst, inl, inr, ⊎_elim, append_assoc, arith, length-append, length-drop, take-append-drop}
+use Rattle.std.proofs.Math.Seq.{drop-append-add}
+use Rattle.std.proofs.Common.{◌≡◌, ℕ, ◌+◌, ◌-◌, ◌<◌, ◌≤◌, List, [], ◌∷◌, ◌++◌, length, take, drop, Some, None, Ok, Err, Option, Result, sym, refl, ap, ◌∙◌, subst, inl, inr, ⊎_elim, append_assoc, arith, length-append, length-drop, take-append-drop}
 use lib.Seq.{take-append-le}
 use Rattle.std.proofs.lemmas.List.{take_at, drop-append-le}
 use Rattle.std.proofs.lemmas.Bool.{cases_lt}
@@ -70,10 +71,6 @@ pub record Joined (from : ℕ) (bytes more : List ℕ) (findings now : List (ℕ
   pub alike : Alike extra now
   pub each : (place : ℕ) (v : Found) → In (place, v) now → (p : ℕ) × In (p, v) extra × (from + length bytes < p)
 
-drop_into : (xs ys : List ℕ) (n : ℕ) → drop (length xs + n) (xs ++ ys) ≡ drop n ys
-drop_into [] ys n = ap (λ k. drop k ys) (omega arith)
-drop_into (x ∷ xs) ys n = ap (λ k. drop k (x ∷ (xs ++ ys))) (let e : length (x ∷ xs) + n ≡ suc (length xs + n) = omega arith in e) ∙ drop_into xs ys n
-
 first_joined : (from : ℕ) (bytes held more : List ℕ) (now : List (ℕ × Found)) (after : List ℕ) → Waits bytes held → Reading 0 (held ++ more) now after → Joined from bytes more [] now after
 first_joined from bytes held more [] after w r = record { extra = []; reading = waits_on w more after r; alike = tt; each = λ place v i. absurd i }
 first_joined from bytes held more ((place, v) ∷ now) after w (used, at, f, rest) =
@@ -81,7 +78,7 @@ first_joined from bytes held more ((place, v) ∷ now) after w (used, at, f, res
     let n = used - length held in
     let is : used ≡ length held + n = omega (arith, past) in
     let found = finds_on w more v n (subst (Finds (held ++ more) v) is f) in
-    let left : drop used (held ++ more) ≡ drop (length bytes + n) (bytes ++ more) = ap (λ k. drop k (held ++ more)) is ∙ drop_into held more n ∙ sym (drop_into bytes more n) in
+    let left : drop used (held ++ more) ≡ drop (length bytes + n) (bytes ++ more) = ap (λ k. drop k (held ++ more)) is ∙ drop-append-add held more n ∙ sym (drop-append-add bytes more n) in
     let further = counted_from place (from + (length bytes + n)) (drop (length bytes + n) (bytes ++ more)) now after (subst (λ l. Reading place l now after) left rest) in
     record {
       extra = (from + (length bytes + n), v) ∷ further.there;

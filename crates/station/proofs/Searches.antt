@@ -1,21 +1,17 @@
 -- The pulse as it is computed is a pulse by the rules: every station can be pulsed on every line.
-use Rattle.std.proofs.Common.{◌≡◌, ℕ, zero, suc, ◌+◌, ◌≤◌, Bool, true, false, cond, eqb, leb, List, [], ◌∷◌, ◌++◌, length, drop, Some, None, Option, sym, refl, ap, ◌∙◌, subst, arith, length-drop}
-use Rattle.std.proofs.lemmas.Bool.{cond_both, eqb-true, eqb-false, eq-eqb, leb-true, leb-false, cond-true, cond-false}
+use Rattle.std.proofs.Common.{◌≡◌, ℕ, zero, suc, ◌+◌, ◌≤◌, false, cond, ◌&&◌, eqb, leb, List, [], ◌∷◌, ◌++◌, length, drop, Some, None, Option, sym, refl, ap, ◌∙◌, subst, arith, length-drop}
+use Rattle.std.proofs.lemmas.Bool.{cond_both, and_parts, eqb-true, eqb-false, eq-eqb, leb-true, leb-false, cond-true, cond-false}
 use Rattle.frames.specs.Finding.{Found, Quiet, misfit, whole, Finds, Begun, none, sync, start, part, Waits}
 use Rattle.frames.specs.Promises.{Reading}
-use Rattle.frames.specs.Samples.{both, judge_at, search_from}
+use Rattle.frames.specs.Samples.{judge_at, search_from}
 use Rattle.frames.proofs.Holding.{waits_held}
 use Rattle.frames.proofs.Searching.{search_is_the_rule}
 use Rattle.station.specs.Stations.{taken}
 use Rattle.station.specs.Computing.{left_open, read_next, read_from, read_all, ComputesThePulse}
 use Rattle.station.proofs.Turns.{clash}
 
-both_parts : (x y : Bool) → both x y ≡ true → (x ≡ true) × (y ≡ true)
-both_parts true y e = (refl, e)
-both_parts false y e = clash e
-
-not_start : (a b : ℕ) → both (eqb a 0xFF) (eqb b 0x02) ≡ false → a ≡ 0xFF → b ≡ 0x02 → ⊥
-not_start a b e p q = clash (sym e ∙ (λ i. both (eq-eqb a 0xFF p i) (eq-eqb b 0x02 q i)))
+not_start : (a b : ℕ) → eqb a 0xFF && eqb b 0x02 ≡ false → a ≡ 0xFF → b ≡ 0x02 → ⊥
+not_start a b e p q = clash (sym e ∙ (λ i. eq-eqb a 0xFF p i && eq-eqb b 0x02 q i))
 
 -- one more byte of noise before
 more_noise : (a b : ℕ) (bytes held noise : List ℕ) → (a ≡ 0xFF → b ≡ 0x02 → ⊥) → b ∷ bytes ≡ noise ++ held → Quiet noise → (held ≡ [] → Quiet (noise ++ (0x02 ∷ [])))
@@ -31,8 +27,8 @@ more_noise a b bytes held (x ∷ noise) apart e quiet settled begun =
 begun_part : (n : ℕ) (tail : List ℕ) → judge_at n tail ≡ None → Begun (0xFF ∷ (0x02 ∷ tail))
 begun_part n [] e = start refl
 begun_part n (size ∷ tail) e =
-    cond_both (both (leb 4 size) (leb size 254)) _ _ (λ o. o ≡ None → Begun (0xFF ∷ (0x02 ∷ (size ∷ tail))))
-    (λ t. let sizes = both_parts (leb 4 size) (leb size 254) t in
+    cond_both (leb 4 size && leb size 254) _ _ (λ o. o ≡ None → Begun (0xFF ∷ (0x02 ∷ (size ∷ tail))))
+    (λ t. let sizes = and_parts (leb 4 size) (leb size 254) t in
     cond_both (leb size (length tail)) _ _ (λ o. o ≡ None → Begun (0xFF ∷ (0x02 ∷ (size ∷ tail))))
     (λ u is. absurd (let z : ◌≡◌ {A = ℕ} 0 1 = cc in omega arith))
     (λ u is. part size tail refl (leb-true 4 size sizes.0, leb-true size 254 sizes.1) (leb-false size (length tail) u)))
@@ -47,9 +43,9 @@ none_found n (a ∷ []) e =
     (λ t. waits_held (sync (ap (λ x. x ∷ []) (eqb-true a 0xFF t))))
     (λ t. record { noise = a ∷ []; split = refl; quiet = tt; settled = λ h. ((λ p q. eqb-false a 0xFF t p), tt); begun = none refl })
 none_found n (a ∷ b ∷ bytes) e =
-    cond_both (both (eqb a 0xFF) (eqb b 0x02)) _ _
-    (λ l. cond (both (eqb a 0xFF) (eqb b 0x02)) (judge_at n bytes) (search_from (n + 1) (b ∷ bytes)) ≡ None → Waits (a ∷ b ∷ bytes) l)
-    (λ t is. let marks = both_parts (eqb a 0xFF) (eqb b 0x02) t in
+    cond_both (eqb a 0xFF && eqb b 0x02) _ _
+    (λ l. cond (eqb a 0xFF && eqb b 0x02) (judge_at n bytes) (search_from (n + 1) (b ∷ bytes)) ≡ None → Waits (a ∷ b ∷ bytes) l)
+    (λ t is. let marks = and_parts (eqb a 0xFF) (eqb b 0x02) t in
     let same : 0xFF ∷ (0x02 ∷ bytes) ≡ a ∷ (b ∷ bytes) = sym (λ i. eqb-true a 0xFF marks.0 i ∷ (eqb-true b 0x02 marks.1 i ∷ bytes)) in
     waits_held (subst Begun same (begun_part n bytes (sym (cond-true _ _ _ t) ∙ is))))
     (λ t is. let w = none_found (n + 1) (b ∷ bytes) (sym (cond-false _ _ _ t) ∙ is) in

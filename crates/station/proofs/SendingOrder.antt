@@ -1,6 +1,7 @@
 -- The books are kept through every call, and so requests go out in the order lodged.
 use Rattle.std.proofs.Common.{◌≡◌, ℕ, ◌≤◌, false, List, [], ◌∷◌, ◌++◌, map, length, Some, None, Ok, Err, Option, Result, sym, refl, ap, ◌∙◌, subst, inl, inr, append_assoc, append-nil, arith}
 use Rattle.std.specs.List.{AllByRecursion}
+use Rattle.std.proofs.lemmas.List.{map-append}
 use Rattle.station.specs.declared.refusal.Refusal.{Refusal}
 use Rattle.station.specs.Commands.{request_cause}
 use Rattle.station.specs.Inquiries.{Outcome, Inquiry, Frame, has_ended}
@@ -14,7 +15,7 @@ use Rattle.station.proofs.Asking.{Had, had, collected, lodge_mark, collect_mark}
 use Rattle.station.proofs.Invariants.{queue_push}
 use Rattle.station.proofs.Slips.{slip_of, same_slip}
 use Rattle.station.proofs.Copies.{at_most_four, request_plain}
-use Rattle.station.proofs.Books.{tally_of, tallies, Sound, Books, copies_join, tallies_join, map_join}
+use Rattle.station.proofs.Books.{tally_of, tallies, Sound, Books, copies_join, tallies_join}
 use Rattle.station.proofs.Bookkeeping.{pulse_books}
 
 -- a call that neither lodges nor puts nor hands anything out
@@ -65,7 +66,7 @@ lodge_books h b c d None plain books =
       sound = all_join Sound books.queue (new ∷ []) books.sound ((omega arith, plain refl), tt);
       few = books.few;
       entered = books.entered;
-      lodged = ap (λ l. l ++ (t.lodging ∷ [])) books.lodged ∙ sym (map_join _ (books.done ++ tallies b.mark books.queue) (t ∷ [])) ∙ ap (map (λ x. x.lodging)) (sym more);
+      lodged = ap (λ l. l ++ (t.lodging ∷ [])) books.lodged ∙ sym (map-append _ (books.done ++ tallies b.mark books.queue) (t ∷ [])) ∙ ap (map (λ x. x.lodging)) (sym more);
       sent = books.sent ∙ sym (append-nil _) ∙ sym (copies_join (books.done ++ tallies b.mark books.queue) (t ∷ [])) ∙ ap all_copies (sym more);
       handed = λ slip o was. books.handed slip o (not_handed h _ (λ slip memory o e. let z : ◌≡◌ {A = ℕ} 0 1 = cc in omega arith) slip o was);
     }

@@ -1,7 +1,7 @@
 -- A pulse as a computation: the reader's rule as a search through all the bytes.
-use Rattle.std.specs.Prelude.{ℕ, zero, suc, ◌+◌, cond, List, [], ◌∷◌, ◌++◌, length, drop, Some, None, Option, ◌==◌}
+use Rattle.std.specs.Prelude.{ℕ, zero, suc, ◌+◌, cond, ◌&&◌, List, [], ◌∷◌, ◌++◌, length, drop, Some, None, Option, ◌==◌}
 use Rattle.frames.specs.Finding.{Found}
-use Rattle.frames.specs.Samples.{both, search_from}
+use Rattle.frames.specs.Samples.{search_from}
 use Rattle.lines.specs.Meaning.{Meaning}
 use Rattle.station.specs.Inquiries.{is_due}
 use Rattle.station.specs.Stations.{Station, first, replies, put, due_frame, up_to_step_three, attempts, taken, left_waiting, unless_silent, Pulsed}
@@ -10,7 +10,7 @@ use Rattle.station.specs.Stations.{Station, first, replies, put, due_frame, up_t
 abbrev pub left_open : List ℕ → List ℕ
 left_open [] = []
 left_open (a ∷ []) = cond (a == 0xFF) (a ∷ []) []
-left_open (a ∷ b ∷ bytes) = cond (both (a == 0xFF) (b == 0x02)) (a ∷ b ∷ bytes) (left_open (b ∷ bytes))
+left_open (a ∷ b ∷ bytes) = cond (a == 0xFF && b == 0x02) (a ∷ b ∷ bytes) (left_open (b ∷ bytes))
 
 -- What bytes hold, each finding with the place where it is over, and what they leave open.
 pub record Read : Type 0 where

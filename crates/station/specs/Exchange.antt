@@ -62,10 +62,14 @@ in_acknowledgement q c d now k =
     (cond (is nak c d) (after_attempt q.copies k)
     (cond (is error c d) (ended (failed ErrorReply)) now)))
 
+-- A frame answers an inquiry's command, with lawful data.
+abbrev pub awaits : Inquiry → ℕ → List ℕ → Bool
+awaits q c d = c == answer_of q.cmd && lawful_answer c d
+
 -- A frame in an answer period: the awaited answer ends the inquiry, but 0x21 with 00 opens the radio period of a 0x20.
 abbrev pub in_answer : Inquiry → ℕ → List ℕ → Stage → Stage
 in_answer q c d now =
-    cond (c == answer_of q.cmd && lawful_answer c d)
+    cond (awaits q c d)
     (cond (q.cmd == 0x20 && slice_index d 0 == 0) (receiving radio_pulses) (ended (answered d)))
     now
 

@@ -11,14 +11,12 @@ pub mod Computing
 pub mod Samples
 pub mod Rows
 pub mod Controls
-pub mod Progresses
 pub mod Putting
-pub mod Sendings
+pub mod Moving
 pub mod Intakes
 pub mod Stages
-pub mod Phases
-pub mod Held
+pub mod Steps
 pub mod Tables
-pub mod Replies
+pub mod Lending
 pub mod Working
 pub mod Answering

@@ -1,12 +1,15 @@
 -- What putting a frame does to a line.
-use Rattle.std.specs.Prelude.{◌≡◌, ℕ, Bool, cond, ◌&&◌, List, ◌++◌, length, nat_le}
-use Rattle.frames.specs.Frame.{frame_bytes}
+use Rattle.std.specs.Prelude.{◌≡◌, ℕ, cond, List, length, Some, None, Option, nat_le}
 use Rattle.lines.specs.Meaning.{Meaning}
-use Rattle.station.specs.Stations.{has_space}
+use Rattle.station.specs.Inquiries.{Frame}
+use Rattle.station.specs.Stations.{put}
 
--- The frame goes out whole where it can be written and the space suffices, and not at all otherwise; nothing else changes.
-pub record Puts (before : Meaning) (c : ℕ) (d : List ℕ) (went : Bool) (after : Meaning) : Type 0 where
-  pub went_out : went ≡ (nat_le (length d) 250 && has_space before.capacity before.outgoing (frame_bytes c d))
-  pub outgoing : after.outgoing ≡ cond went (before.outgoing ++ frame_bytes c d) before.outgoing
-  pub waiting : after.waiting ≡ before.waiting
-  pub capacity : after.capacity ≡ before.capacity
+-- The frame of a CMD with these data bytes, if it can carry them.
+abbrev pub writable : ℕ → List ℕ → Option Frame
+writable c d = cond (nat_le (length d) 250) (Some (record { cmd = c; body = d })) None
+
+-- The frame, if there is one, went out whole if the space sufficed, and not at all otherwise; nothing else of the line changed.
+pub record PutsIf (f : Option Frame) (line line_after : Meaning) : Type 0 where
+  pub outgoing : line_after.outgoing ≡ put line.capacity line.outgoing f
+  pub waiting : line_after.waiting ≡ line.waiting
+  pub capacity : line_after.capacity ≡ line.capacity

@@ -1,5 +1,5 @@
 -- The numbers of this level's refusals and faults.
-use Rattle.std.specs.Prelude.{ℕ}
+use Rattle.std.specs.Prelude.{ℕ, Some, None, Ok, Err, Option, Result}
 use Rattle.station.specs.declared.refusal.Refusal.{Refusal}
 use Rattle.station.specs.declared.refusal.Refusal.TheVariants.{UnknownCommand, DataLength, PlacesTaken, NumbersUsedUp, MemoryShort, OtherMark, NumberNotHeld, NotEnded}
 use Rattle.station.specs.declared.fault.Fault.{Fault}
@@ -23,3 +23,8 @@ fault_number NotAcknowledged = 22
 fault_number ErrorReply = 23
 fault_number NoAnswer = 24
 fault_number NoRadioAnswer = 25
+
+-- the refusal in an answer, if it is one
+abbrev pub refusal_in : {X : Type 0} → Result X Refusal → Option Refusal
+refusal_in (Ok x) = None
+refusal_in (Err e) = Some e

@@ -1,37 +1,27 @@
--- A station as the rules have it, and what the first step of a pulse does.
-use Rattle.std.specs.Prelude.{◌≡◌, ℕ, List, ◌++◌, Some, None, Option}
+-- What the first step of a pulse does.
+use Rattle.std.specs.Prelude.{◌≡◌, ℕ, ◌+◌, List, ◌++◌, Some, None, Option}
 use Rattle.frames.specs.Finding.{Found}
 use Rattle.frames.specs.Promises.{Reading}
-use Rattle.frames.specs.Reading.{holds}
 use Rattle.lines.specs.Meaning.{Meaning}
-use Rattle.station.specs.Inquiries as rules
 use Rattle.station.specs.Stations as rules_of
-use Rattle.station.specs.Stations.{put, replies, hears, taken, left_waiting, unless_silent}
-use Rattle.station.specs.declared.station.Station.{Station}
-use Rattle.station.specs.Held.{hears as hears_one}
-use Rattle.station.specs.Replies.{reply_if}
-use Rattle.station.specs.Tables.{places_of, alter_at}
+use Rattle.station.specs.Putting.{PutsIf}
+use Rattle.station.specs.Stations.{last_number, with_places, change, replies, hears, taken, left_waiting, unless_silent}
+use Rattle.station.specs.Steps.{hears_one}
+use Rattle.station.specs.Exchange.{reply}
+use Rattle.station.specs.Inquiries.{under_way}
 
--- A station as the rules have it.
-abbrev pub station_of : Station → rules_of.Station
-station_of s = record { mark = s.mark; next = s.next; places = places_of s.places; held = holds s.reader }
+-- The next number that a station gives; it is past the last one, once that has been given.
+abbrev pub next_number : Option ℕ → ℕ
+next_number (Some n) = n
+next_number None = last_number + 1
 
--- An inquiry after what was found, if something was.
-abbrev pub hears_if : Option Found → rules.Inquiry → rules.Inquiry
-hears_if None q = q
-hears_if (Some v) q = hears_one q v
-
--- One finding was handled: replied to, and heard by the inquiry at its place.
-pub record Handled (turn : Option ℕ) (v : Option Found) (before : rules_of.Station) (line : Meaning) (after : rules_of.Station) (line_after : Meaning) : Type 0 where
-  pub places : after.places ≡ alter_at turn (hears_if v) before.places
-  pub mark : after.mark ≡ before.mark
-  pub next : after.next ≡ before.next
-  pub outgoing : line_after.outgoing ≡ put line.capacity line.outgoing (reply_if v)
-  pub waiting : line_after.waiting ≡ line.waiting
-  pub capacity : line_after.capacity ≡ line.capacity
+-- One finding was handled: replied to, and heard by the inquiry under way; nothing else changed.
+pub record Handled (v : Found) (before after : rules_of.Station) (line line_after : Meaning) : Type 0 where
+  pub station : after ≡ with_places before (change under_way (λ q. hears_one q v) before.places)
+  pub puts : PutsIf (reply v) line line_after
 
 -- Step 1: all that the bytes held and taken hold was found and handled.
-pub record Heard (before : rules_of.Station) (line : Meaning) (after : rules_of.Station) (line_after : Meaning) : Type 0 where
+pub record Heard (before after : rules_of.Station) (line line_after : Meaning) : Type 0 where
   pub findings : List (ℕ × Found)
   pub open_end : List ℕ
   pub reads : Reading 0 (before.held ++ taken line) findings open_end

@@ -1,10 +1,18 @@
 // The nine requests: how much data each carries, and which command answers it.
 ghost use Rattle.std.specs.Prelude.{◌≡◌};
-ghost use Rattle.station.specs.Commands.{commands, row_of, request_cause, answer_of};
+ghost use Rattle.std.specs.Option.{option_map};
+ghost use Rattle.station.specs.Commands.{commands, row_of, request_cause, answers_some};
+ghost use Rattle.station.specs.Refusals.{refusal_in};
 ghost use Rattle.station.specs.Rows.{row_told};
 
 use super::refusal::Refusal;
 use frames::numbered::{Numbered, find};
+
+// The CMD of a request that is sent on by radio.
+pub(crate) const SEND_FRAME: u8 = 0x20;
+
+// The CMD of an answer that came by radio.
+pub(crate) const RADIO_ANSWER: u8 = 0x30;
 
 // A request with the least and the most data bytes, and the CMD that answers it.
 #[derive(Clone, Copy)]
@@ -26,7 +34,7 @@ impl Numbered for Command {
 static COMMANDS: [Command; 9] = [
     // send frame
     Command {
-        cmd: 0x20,
+        cmd: SEND_FRAME,
         least: 6,
         most: 158,
         answer: 0x21,
@@ -97,23 +105,27 @@ fn row_of(cmd: u8) -> Option<Command>
     Some(COMMANDS[place])
 }
 
-// Why a request with so many data bytes cannot be lodged by the table, if it cannot.
-pub(crate) fn request_cause(cmd: u8, count: usize) -> Option<Refusal>
-    ensures cause { result ≡ request_cause cmd count }
+// Whether the table admits a request with so many data bytes.
+pub(crate) fn admit(cmd: u8, count: usize) -> Result<(), Refusal>
+    ensures cause { refusal_in result ≡ request_cause cmd count }
 {
-    match row_of(cmd) {
-        None => Some(Refusal::UnknownCommand),
-        Some(row) if count < row.least || row.most < count => Some(Refusal::DataLength),
-        Some(_) => None,
+    let row = row_of(cmd).ok_or(Refusal::UnknownCommand)?;
+    if !(row.least..=row.most).contains(&count) {
+        return Err(Refusal::DataLength);
     }
+    Ok(())
 }
 
-// The CMD that answers a request; 0 for a CMD that is none.
-pub(crate) fn answer_of(cmd: u8) -> u8
-    ensures answer { result ≡ answer_of cmd }
+// The CMD that answers a request, if the CMD is one.
+pub(crate) fn answer_of(cmd: u8) -> Option<u8>
+    ensures answer { result ≡ option_map (λ r. r.answer) (row_of cmd commands) }
 {
-    match row_of(cmd) {
-        None => 0,
-        Some(row) => row.answer,
-    }
+    row_of(cmd).map(|row| row.answer)
+}
+
+// Whether a CMD answers some request.
+pub(crate) fn answers_some(cmd: u8) -> bool
+    ensures answers { result ≡ answers_some cmd commands }
+{
+    COMMANDS.iter().any(|row| row.answer == cmd)
 }

@@ -6,27 +6,21 @@ ghost use Rattle.station.specs.Refusals.{fault_number};
 #[derive(Clone, Copy, Debug, PartialEq, Eq)]
 pub enum Fault {
     // the line had space for none of the four attempts
-    NotSent,
+    NotSent = 21,
     // four attempts, and none was acknowledged
-    NotAcknowledged,
+    NotAcknowledged = 22,
     // the card replied ERROR
-    ErrorReply,
+    ErrorReply = 23,
     // acknowledged, and no answer came in time
-    NoAnswer,
+    NoAnswer = 24,
     // sent by radio, and no radio answer came in time
-    NoRadioAnswer,
+    NoRadioAnswer = 25,
 }
 
 impl Fault {
     pub fn number(self) -> u8
         ensures { result ≡ fault_number self }
     {
-        match self {
-            Fault::NotSent => 21,
-            Fault::NotAcknowledged => 22,
-            Fault::ErrorReply => 23,
-            Fault::NoAnswer => 24,
-            Fault::NoRadioAnswer => 25,
-        }
+        self as u8
     }
 }

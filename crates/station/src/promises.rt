@@ -5,19 +5,18 @@ ghost use Rattle.station.specs.Keeping.{RulesKeepThePromises};
 ghost use Rattle.station.specs.Stations.{least_memory};
 ghost use Rattle.station.specs.Promises.{Always, AnswersWereRead, CollectsByTheRules, EndsInTime, SendsInOrder};
 
+use super::answer::ADDRESS_LENGTH;
+use super::inquiry::MOST_ATTEMPTS;
+use super::outcome::LEAST_MEMORY;
+
 // An inquiry that has the station for itself has ended by this pulse after its lodging.
 const ALONE: u16 = 71;
 
 // Each inquiry before it takes so many pulses at most.
 const FOR_EACH: u16 = 70;
 
-const LEAST_MEMORY: usize = 250;
-
-const MOST_COPIES: u8 = 4;
-
-const ATTEMPTS: u8 = 4;
-
-const ADDRESS_LENGTH: usize = 6;
+// Each attempt puts one copy at most.
+const MOST_COPIES: u8 = MOST_ATTEMPTS;
 
 // The pulse after its lodging by which an inquiry has ended, if so many others were unfinished when it was lodged.
 pub fn latest_end(unfinished: u8) -> u16
@@ -48,7 +47,7 @@ pub fn attempts_made() -> u8
     ensures number { result ≡ 4 }
     ensures law { Always (FaultsAreEarned result) }
 {
-    ATTEMPTS
+    MOST_ATTEMPTS
 }
 
 // How many first bytes of a radio answer are those of the address sent; an answer was read after the first copy went out.

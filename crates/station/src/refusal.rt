@@ -6,36 +6,28 @@ ghost use Rattle.station.specs.Refusals.{refusal_number};
 #[derive(Clone, Copy, Debug, PartialEq, Eq)]
 pub enum Refusal {
     // the CMD is no request of the table
-    UnknownCommand,
+    UnknownCommand = 1,
     // the request does not carry so many data bytes
-    DataLength,
+    DataLength = 2,
     // all eight places are taken
-    PlacesTaken,
+    PlacesTaken = 3,
     // the last number has been given
-    NumbersUsedUp,
+    NumbersUsedUp = 4,
     // the memory handed over is shorter than 250 bytes
-    MemoryShort,
+    MemoryShort = 5,
     // the slip is another station's
-    OtherMark,
+    OtherMark = 6,
     // no inquiry of this number is held
-    NumberNotHeld,
+    NumberNotHeld = 7,
     // the inquiry has not ended
-    NotEnded,
+    NotEnded = 8,
 }
 
+// kept: (a) no trait over the refusals of all levels: each level numbers its own, and can be bought without the others.
 impl Refusal {
     pub fn number(self) -> u8
         ensures { result ≡ refusal_number self }
     {
-        match self {
-            Refusal::UnknownCommand => 1,
-            Refusal::DataLength => 2,
-            Refusal::PlacesTaken => 3,
-            Refusal::NumbersUsedUp => 4,
-            Refusal::MemoryShort => 5,
-            Refusal::OtherMark => 6,
-            Refusal::NumberNotHeld => 7,
-            Refusal::NotEnded => 8,
-        }
+        self as u8
     }
 }

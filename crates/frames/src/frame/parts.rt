@@ -15,7 +15,7 @@ impl Frame {
         ensures bytes { frame_data result ≡ «data».now }
     {
         let count = data.len();
-        let mut bytes = [0u8; 250];
+        let mut bytes = [0u8; MOST_DATA];
         bytes[0..count].copy_from_slice(data);
         Frame { cmd, count, bytes }
     }

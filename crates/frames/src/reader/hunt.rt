@@ -1,30 +1,21 @@
 // Hunting for the start of a candidate: SYNC directly followed by STX.
-ghost use Rattle.std.specs.Prelude.{◌≡◌, ℕ, ◌+◌, ◌<◌, ◌≤◌, ◌++◌, length, take, ◌≢◌, slice_index};
+ghost use Rattle.std.specs.Prelude.{◌≡◌, ◌<◌, ◌≤◌, ◌++◌, length, take, IfSome, IfNone};
 ghost use Rattle.frames.specs.declared.reader.Stage.TheVariants.{Start as started};
 ghost use Rattle.frames.specs.Finding.{Waits};
+ghost use Rattle.frames.specs.Hunting.{StartsAt, Unmarked};
 ghost use Rattle.frames.specs.Reading.{holds, Opened};
 
+use super::super::frame::{STX, SYNC};
 use super::{Reader, Stage};
 
-const SYNC: u8 = 0xFF;
-
-const STX: u8 = 0x02;
-
-// Where the first SYNC stands that is directly followed by STX; the number of bytes where none does.
-fn start_of(bytes: &[u8]) -> usize
-    ensures within { result ≤ length bytes.now }
-    ensures before { (k : ℕ) → k < result → slice_index bytes.now k ≡ 0xFF → slice_index bytes.now (k + 1) ≢ 0x02 }
-    ensures found { result < length bytes.now → (result + 1 < length bytes.now) × (slice_index bytes.now result ≡ 0xFF) × (slice_index bytes.now (result + 1) ≡ 0x02) }
+// Where the first SYNC stands that is directly followed by STX, if one is.
+fn start_of(bytes: &[u8]) -> Option<usize>
+    ensures start { IfSome result (StartsAt bytes.now) }
+    ensures none { IfNone result (Unmarked bytes.now (length bytes.now)) }
 {
-    let count = bytes.len();
-    let mut at = 1;
-    while at < count {
-        if bytes[at - 1] == SYNC && bytes[at] == STX {
-            return at - 1;
-        }
-        at += 1;
-    }
-    count
+    bytes
+        .windows(2)
+        .position(|pair| matches!(pair, [SYNC, STX]))
 }
 
 impl Reader {
@@ -35,17 +26,15 @@ impl Reader {
         ensures some { 0 < length stretch.now → 0 < result }
         ensures opened { result < length stretch.now → self.new.stage ≡ started }
     {
-        let at = start_of(stretch);
-        if at < stretch.len() {
+        if let Some(at) = start_of(stretch) {
             self.stage = Stage::Start;
             return at + 2;
         }
-        if at > 0 && stretch[at - 1] == SYNC {
-            self.stage = Stage::Sync;
-            return at;
-        }
-        self.stage = Stage::Hunting;
-        at
+        self.stage = match stretch {
+            [.., last] if *last == SYNC => Stage::Sync,
+            _ => Stage::Hunting,
+        };
+        stretch.len()
     }
 
     // Goes on hunting, if no candidate has been opened yet; answers how many bytes that used.
@@ -54,19 +43,15 @@ impl Reader {
         ensures waits { Waits (holds self.old ++ take result stretch.now) (holds self.new) }
         ensures opened { result < length stretch.now → Opened self.new.stage }
     {
-        match self.stage {
-            Stage::Hunting => self.search(stretch),
-            Stage::Sync => {
-                if stretch.is_empty() {
-                    return 0;
-                }
-                if stretch[0] == STX {
-                    self.stage = Stage::Start;
-                    return 1;
-                }
-                self.search(stretch)
+        match (self.stage, stretch) {
+            (Stage::Hunting, _) => self.search(stretch),
+            (Stage::Sync, []) => 0,
+            (Stage::Sync, [first, ..]) if *first == STX => {
+                self.stage = Stage::Start;
+                1
             }
-            Stage::Start | Stage::Body => 0,
+            (Stage::Sync, _) => self.search(stretch),
+            (Stage::Start | Stage::Body { .. }, _) => 0,
         }
     }
 }

@@ -1,14 +1,12 @@
 // What a whole candidate comes to.
-ghost use Rattle.std.specs.Prelude.{◌≡◌, ◌+◌, ◌*◌, ◌∷◌, length as long, Some, ◌==◌};
+ghost use Rattle.std.specs.Prelude.{◌≡◌, ◌+◌, ◌*◌, ◌∷◌, length as long, ◌==◌};
 ghost use Rattle.frames.specs.Crc.{crc_of};
 ghost use Rattle.frames.specs.Finding.{Sized, verdict};
-ghost use Rattle.frames.specs.Reading.{found};
+ghost use Rattle.frames.specs.Reading.{thing};
 
 use super::super::crc::crc_on;
 use super::super::finding::{Cause, Finding};
-use super::super::frame::Frame;
-
-const ETX: u8 = 0x03;
+use super::super::frame::{ETX, Frame};
 
 // Whether the stored bytes are the check value of LENGTH and what stands before them.
 fn check_holds(length: u8, front: &[u8], low: u8, high: u8) -> bool
@@ -20,11 +18,11 @@ fn check_holds(length: u8, front: &[u8], low: u8, high: u8) -> bool
 // Judges the bytes behind LENGTH, as many as it announces: the last byte first, then the check value.
 pub(crate) fn judge(body: &[u8]) -> Finding
     requires { Sized (long body.now) }
-    ensures { found result ≡ Some (verdict (long body.now) body.now) }
+    ensures { thing result ≡ verdict (long body.now) body.now }
 {
     let size = body.len() + 3;
     let [front @ .., low, high, last] = body else {
-        return Finding::Nothing;
+        unreachable!()
     };
     if *last != ETX {
         return Finding::Dropped {
@@ -39,7 +37,7 @@ pub(crate) fn judge(body: &[u8]) -> Finding
         };
     }
     let [cmd, data @ ..] = front else {
-        return Finding::Nothing;
+        unreachable!()
     };
     Finding::Frame(Frame::new(*cmd, data))
 }

@@ -4,6 +4,7 @@ ghost use Rattle.frames.specs.Promises.{FindsExactly, FindsWritten, StandsAsWrit
 ghost use Rattle.frames.specs.Reading.{found, holds, Reads};
 
 use super::super::finding::Finding;
+use super::super::frame::MOST_LENGTH;
 use super::{Reader, Stage};
 
 impl Reader {
@@ -13,9 +14,7 @@ impl Reader {
     {
         Reader {
             stage: Stage::Hunting,
-            length: 4,
-            got: 0,
-            body: [0; 254],
+            body: [0; MOST_LENGTH],
         }
     }
 
@@ -28,7 +27,7 @@ impl Reader {
 
     // Reads a stretch up to the first thing that it completes: what was found, and how many bytes that used.
     // Where nothing is found yet, the whole stretch is used, and what has begun is held for the next call.
-    pub fn read(&mut self, stretch: &[u8]) -> (Finding, usize)
+    pub fn read(&mut self, stretch: &[u8]) -> (Option<Finding>, usize)
         ensures reads { Reads (holds self.old) stretch.now (found result.0) result.1 (holds self.new) }
         ensures within { result.1 ≤ length stretch.now }
         ensures some { 0 < length stretch.now → 0 < result.1 }
@@ -51,7 +50,7 @@ impl Reader {
             Stage::Hunting => 0,
             Stage::Sync => 1,
             Stage::Start => 2,
-            Stage::Body => 3 + self.got,
+            Stage::Body { got, .. } => 3 + got,
         }
     }
 }

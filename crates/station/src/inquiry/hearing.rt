@@ -1,27 +1,22 @@
 // What the frames that are found do to an inquiry.
-ghost use Rattle.std.specs.Prelude.{◌≡◌, take};
+ghost use Rattle.std.specs.Prelude.{◌≡◌, ◌≤◌, take};
 ghost use Rattle.std.specs.Str.{bytes_eq};
 ghost use Rattle.frames.specs.Finding.{frame as a_frame};
 ghost use Rattle.frames.specs.Reading.{frame_data};
 ghost use Rattle.station.specs.Inquiries.{at_stage};
-ghost use Rattle.station.specs.Exchange.{in_answer, in_radio};
-ghost use Rattle.station.specs.Held.{inquiry_of, awaits, hears};
+ghost use Rattle.station.specs.Exchange.{in_acknowledgement, in_answer, in_radio, awaits};
+ghost use Rattle.station.specs.Steps.{hears_one};
 
 use super::super::answer::is_lawful;
-use super::super::command::answer_of;
+use super::super::command::{RADIO_ANSWER, SEND_FRAME, answer_of};
 use super::super::control::Control;
 use super::super::fault::Fault;
-use super::super::progress::Verdict;
 use super::super::stage::Stage;
-use super::Inquiry;
+use super::{ANSWER_PULSES, Inquiry, RADIO_PULSES};
 use frames::frame::Frame;
 
-// What is sent by radio and what comes by radio begins with the six bytes of an address.
-const SEND_FRAME: u8 = 0x20;
-
-const RADIO_ANSWER: u8 = 0x30;
-
-// Whether both begin with the same radio address.
+// Whether both begin with the same radio address; what is sent by radio and what comes by radio begins with its six bytes.
+// kept: (a) no `starts_with`: that data is taken apart into six named address bytes and the rest is a form that the project asks for.
 fn same_address(received: &[u8], sent: &[u8]) -> bool
     ensures { result ≡ bytes_eq (take 6 received.now) (take 6 sent.now) }
 {
@@ -36,62 +31,64 @@ fn same_address(received: &[u8], sent: &[u8]) -> bool
 impl Inquiry {
     // The stage to which a frame brings the inquiry.
     pub(crate) fn hear(&mut self, frame: &Frame)
-        ensures heard { inquiry_of self.new ≡ hears (inquiry_of self.old) (a_frame frame.now.cmd (frame_data frame.now)) }
+        ensures heard { self.new ≡ hears_one self.old (a_frame frame.now.cmd (frame_data frame.now)) }
     {
         match self.stage {
-            Stage::Trying => self.hear_control(frame.cmd(), frame.data()),
+            Stage::Acknowledging { attempt, .. } => self.hear_control(attempt, frame),
             Stage::Answering { .. } => self.hear_answer(frame),
             Stage::Receiving { .. } => self.hear_radio(frame),
-            Stage::Waiting | Stage::Answered(_) | Stage::Failed(_) => {}
+            Stage::Waiting | Stage::Due { .. } | Stage::Ended(_) => {}
         }
     }
 
-    // Control frames matter while the frame is on its way.
-    fn hear_control(&mut self, cmd: u8, data: &[u8])
-        requires { self.old.stage ≡ Stage.Trying }
-        ensures heard { inquiry_of self.new ≡ hears (inquiry_of self.old) (a_frame cmd «data».now) }
+    // Control frames matter in an acknowledgement period, once a copy was put.
+    fn hear_control(&mut self, attempt: u8, frame: &Frame)
+        requires { self.old.copies ≤ attempt }
+        ensures heard { self.new ≡ at_stage self.old (in_acknowledgement self.old frame.now.cmd (frame_data frame.now) self.old.stage attempt) }
     {
-        if let Some(control) = Control::read(cmd, data) {
-            match self.sending.hear(control) {
-                Verdict::GoesOn => {}
-                Verdict::Acknowledged => self.stage = Stage::Answering { left: 21 },
-                Verdict::Rejected => self.stage = Stage::Failed(Fault::ErrorReply),
-                Verdict::GivenUp => self.give_up(),
+        match Control::read(frame) {
+            _ if self.copies == 0 => {}
+            Some(Control::Ack) => {
+                self.stage = Stage::Answering {
+                    left: ANSWER_PULSES,
+                };
             }
+            Some(Control::Nak) => self.fail(attempt),
+            Some(Control::Error) => self.stage = Stage::Ended(Err(Fault::ErrorReply)),
+            None => {}
         }
     }
 
     // Whether a frame is an answer to the inquiry's command, with lawful data.
     fn awaits(&self, frame: &Frame) -> bool
-        ensures awaited { result ≡ awaits (inquiry_of self.now) frame.now.cmd (frame_data frame.now) }
+        ensures awaited { result ≡ awaits self.now frame.now.cmd (frame_data frame.now) }
     {
-        frame.cmd() == answer_of(self.sending.frame().cmd()) && is_lawful(frame.cmd(), frame.data())
+        is_lawful(frame) && answer_of(self.frame.cmd()) == Some(frame.cmd())
     }
 
     // The awaited answer ends the inquiry; what is sent by radio is answered by radio, once the card has sent it.
     fn hear_answer(&mut self, frame: &Frame)
-        ensures heard { inquiry_of self.new ≡ at_stage (inquiry_of self.old) (in_answer (inquiry_of self.old) frame.now.cmd (frame_data frame.now) (inquiry_of self.old).stage) }
+        ensures heard { self.new ≡ at_stage self.old (in_answer self.old frame.now.cmd (frame_data frame.now) self.old.stage) }
     {
         if self.awaits(frame) {
-            let by_radio = self.sending.frame().cmd() == SEND_FRAME;
+            let by_radio = self.frame.cmd() == SEND_FRAME;
             self.stage = if by_radio && frame.data().first() == Some(&0) {
-                Stage::Receiving { left: 31 }
+                Stage::Receiving { left: RADIO_PULSES }
             } else {
-                Stage::Answered(*frame)
+                Stage::Ended(Ok(*frame))
             };
         }
     }
 
     // Only an answer from the address sent ends the inquiry.
     fn hear_radio(&mut self, frame: &Frame)
-        ensures heard { inquiry_of self.new ≡ at_stage (inquiry_of self.old) (in_radio (inquiry_of self.old) frame.now.cmd (frame_data frame.now) (inquiry_of self.old).stage) }
+        ensures heard { self.new ≡ at_stage self.old (in_radio self.old frame.now.cmd (frame_data frame.now) self.old.stage) }
     {
-        let data = frame.data();
         if frame.cmd() == RADIO_ANSWER
-            && is_lawful(RADIO_ANSWER, data)
-            && same_address(data, self.sending.frame().data())
+            && is_lawful(frame)
+            && same_address(frame.data(), self.frame.data())
         {
-            self.stage = Stage::Answered(*frame);
+            self.stage = Stage::Ended(Ok(*frame));
         }
     }
 }

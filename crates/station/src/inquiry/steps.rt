@@ -1,20 +1,19 @@
 // What pulses do to an inquiry.
 ghost use Rattle.std.specs.Prelude.{◌≡◌, ◌≤◌, true, length};
 ghost use Rattle.frames.specs.Reading.{frame_data};
-ghost use Rattle.station.specs.Exchange.{begun, ticked};
-ghost use Rattle.station.specs.Inquiries.{waits_still};
-ghost use Rattle.station.specs.Stations.{new_inquiry};
-ghost use Rattle.station.specs.Answering.{ToldAt};
-ghost use Rattle.station.specs.Held.{inquiry_of, given_up, Tries};
-ghost use Rattle.station.specs.Phases.{passes};
+ghost use Rattle.station.specs.Exchange.{after_attempt, begun, ticked};
+ghost use Rattle.station.specs.Inquiries.{at_stage, waits_still, under_way, is_due};
+ghost use Rattle.station.specs.Stations.{new_inquiry, outcome_at};
+ghost use Rattle.station.specs.Answering.{Told};
+ghost use Rattle.station.specs.Moving.{Moves};
+ghost use Rattle.station.specs.Steps.{Tries};
 
 use super::super::fault::Fault;
-use super::super::outcome::Ending;
-use super::super::phase::Phase;
-use super::super::progress::Verdict;
-use super::super::sending::Sending;
+use super::super::outcome::Outcome;
+use super::super::putting::put_frame;
+use super::super::refusal::Refusal;
 use super::super::stage::Stage;
-use super::Inquiry;
+use super::{ACKNOWLEDGEMENT_PULSES, Inquiry, MOST_ATTEMPTS};
 use frames::frame::Frame;
 use frames::numbered::Numbered;
 use lines::line::Line;
@@ -30,98 +29,115 @@ impl Numbered for Inquiry {
 impl Inquiry {
     // A newly lodged inquiry waits.
     pub(crate) fn new(number: u32, frame: Frame) -> Inquiry
-        ensures waits { inquiry_of result ≡ new_inquiry number frame.cmd (frame_data frame) }
+        ensures waits { result ≡ new_inquiry number frame.cmd (frame_data frame) }
     {
         Inquiry {
             number,
-            sending: Sending::new(frame),
+            frame,
+            copies: 0,
             stage: Stage::Waiting,
         }
     }
 
-    // Whether it is in this phase.
-    pub(crate) fn is_in(&self, phase: Phase) -> bool
-        ensures { result ≡ passes phase (inquiry_of self.now).stage }
+    // Whether it has not begun.
+    pub(crate) fn is_waiting(&self) -> bool
+        ensures { result ≡ waits_still self.now.stage }
     {
-        match (self.stage, phase) {
-            (Stage::Waiting, Phase::Waiting) => true,
-            (Stage::Trying, Phase::Due) => self.sending.is_due(),
-            (Stage::Trying | Stage::Answering { .. } | Stage::Receiving { .. }, Phase::UnderWay) =>
-                { true }
-            _ => false,
-        }
+        matches!(self.stage, Stage::Waiting)
+    }
+
+    // Whether it has begun and not ended.
+    pub(crate) fn is_under_way(&self) -> bool
+        ensures { result ≡ under_way self.now.stage }
+    {
+        !matches!(self.stage, Stage::Waiting | Stage::Ended(_))
+    }
+
+    // Whether an attempt of it is due.
+    pub(crate) fn is_due(&self) -> bool
+        ensures { result ≡ is_due self.now.stage }
+    {
+        matches!(self.stage, Stage::Due { .. })
     }
 
     // It begins, with attempt 1 due.
     pub(crate) fn begin(&mut self)
-        requires { waits_still (inquiry_of self.old).stage ≡ true }
-        ensures begun { inquiry_of self.new ≡ begun (inquiry_of self.old) }
+        requires { waits_still self.old.stage ≡ true }
+        ensures begun { self.new ≡ begun self.old }
     {
-        self.sending = Sending::new(*self.sending.frame());
-        self.stage = Stage::Trying;
+        self.stage = Stage::Due { attempt: 1 };
     }
 
-    // No attempt is left: it ends, unsent or not acknowledged.
-    pub(super) fn give_up(&mut self)
-        ensures given_up { inquiry_of self.new ≡ given_up (inquiry_of self.old) }
+    // The attempt has failed: the next one is due; if none is left, the inquiry ends, unsent or not acknowledged.
+    pub(super) fn fail(&mut self, attempt: u8)
+        requires { self.old.copies ≤ attempt }
+        ensures failed { self.new ≡ at_stage self.old (after_attempt self.old.copies attempt) }
     {
-        self.stage = Stage::Failed(if self.sending.copies() == 0 {
-            Fault::NotSent
+        self.stage = if attempt < MOST_ATTEMPTS {
+            Stage::Due {
+                attempt: attempt + 1,
+            }
+        } else if self.copies == 0 {
+            Stage::Ended(Err(Fault::NotSent))
         } else {
-            Fault::NotAcknowledged
-        });
+            Stage::Ended(Err(Fault::NotAcknowledged))
+        };
     }
 
     // A period is one pulse shorter, or ends with this pulse.
+    // kept: (c) an arm for each period and no `*left -= 1` in one for all, which was tried: what is written through the loan of a variant stays untold (goal `returns-in-Acknowledging`).
     pub(crate) fn tick(&mut self)
-        ensures ticked { inquiry_of self.new ≡ ticked (inquiry_of self.old) }
+        ensures ticked { self.new ≡ ticked self.old }
     {
         match self.stage {
-            Stage::Trying => {
-                if let Verdict::GivenUp = self.sending.tick() {
-                    self.give_up();
-                }
+            Stage::Acknowledging { attempt, left } if left <= 1 => self.fail(attempt),
+            Stage::Acknowledging { attempt, left } => {
+                let left = left - 1;
+                self.stage = Stage::Acknowledging { attempt, left };
             }
-            Stage::Answering { left } if left <= 1 => self.stage = Stage::Failed(Fault::NoAnswer),
+            Stage::Answering { left } if left <= 1 => {
+                self.stage = Stage::Ended(Err(Fault::NoAnswer));
+            }
             Stage::Answering { left } => self.stage = Stage::Answering { left: left - 1 },
             Stage::Receiving { left } if left <= 1 => {
-                self.stage = Stage::Failed(Fault::NoRadioAnswer);
+                self.stage = Stage::Ended(Err(Fault::NoRadioAnswer));
             }
             Stage::Receiving { left } => self.stage = Stage::Receiving { left: left - 1 },
-            Stage::Waiting | Stage::Answered(_) | Stage::Failed(_) => {}
+            Stage::Waiting | Stage::Due { .. } | Stage::Ended(_) => {}
         }
     }
 
-    // A due attempt puts the frame if the line has space, else it is spent unsent.
+    // A due attempt puts the frame if the line has space, else it is spent unsent; either way its period opens.
     pub(crate) fn attempt<L: Line>(&mut self, line: &mut L)
-        ensures tries { Tries (inquiry_of self.old) (L.Line.meaning line.old) (inquiry_of self.new) (L.Line.meaning line.new) }
-        ensures fixed { L.Line.fixed line.new ≡ L.Line.fixed line.old }
+        ensures tries { Moves L.Line line.old line.new (Tries self.old self.new) }
     {
-        if let Stage::Trying = self.stage {
-            self.sending.attempt(line);
+        if let Stage::Due { attempt } = self.stage {
+            let put = put_frame(line, self.frame.cmd(), self.frame.data());
+            self.copies += u8::from(put);
+            self.stage = Stage::Acknowledging {
+                attempt,
+                left: ACKNOWLEDGEMENT_PULSES,
+            };
         }
     }
 
-    // How often the frame was put so far.
-    pub(crate) fn copies(&self) -> u8
-        ensures copies { result ≡ (inquiry_of self.now).copies }
-    {
-        self.sending.copies()
-    }
-
-    // How it ended, if it has; an answer's data is written to the start of the memory.
-    pub(crate) fn tell(&self, memory: &mut [u8]) -> Option<Ending>
+    // Its outcome, once it has ended; an answer's data is written to the start of the memory.
+    pub(crate) fn tell(&self, memory: &mut [u8]) -> Result<Outcome, Refusal>
         requires { 250 ≤ length memory.old }
-        ensures told { ToldAt (inquiry_of self.now).stage memory.old result memory.new }
+        ensures told { Told (outcome_at self.now.copies self.now.stage) memory.old result memory.new }
     {
-        match self.stage {
-            Stage::Answered(frame) => {
-                let data = frame.data();
+        let ending = match &self.stage {
+            Stage::Ended(Ok(answer)) => {
+                let data = answer.data();
                 memory[..data.len()].copy_from_slice(data);
-                Some(Ending::Answered { length: data.len() })
+                Ok(data.len())
             }
-            Stage::Failed(fault) => Some(Ending::Failed(fault)),
-            _ => None,
-        }
+            Stage::Ended(Err(fault)) => Err(*fault),
+            _ => return Err(Refusal::NotEnded),
+        };
+        Ok(Outcome {
+            copies: self.copies,
+            ending,
+        })
     }
 }

@@ -1,50 +1,42 @@
 // Taking a place, and giving it back.
-ghost use Rattle.std.specs.Prelude.{◌≡◌, ◌<◌, [], ◌∷◌, ◌++◌, length, nat_le, slice_index_or};
-ghost use Rattle.station.specs.Inquiries.{Inquiry as InquiryByRule};
-ghost use Rattle.station.specs.Stations.{most_places};
-ghost use Rattle.station.specs.Held.{inquiry_of};
-ghost use Rattle.station.specs.Tables.{places_of, HoldsAt, left_out};
+ghost use Rattle.std.specs.Prelude.{◌≡◌, ◌<◌, [], ◌∷◌, ◌++◌, length, nat_le};
+ghost use Rattle.std.specs.Option.{option_map};
+ghost use Rattle.station.specs.Stations.{most_places, held_under, without};
 
 use super::super::inquiry::Inquiry;
-use super::Places;
+use super::{MOST_PLACES, Places};
 use frames::numbered::find;
 
 impl Places {
     // Whether all eight places are taken.
     pub(crate) fn are_taken(&self) -> bool
-        ensures taken { result ≡ nat_le most_places (length (places_of self.now)) }
+        ensures taken { result ≡ nat_le most_places (length self.now) }
     {
-        self.inquiries.len() >= 8
+        self.inquiries.len() >= MOST_PLACES
     }
 
     // One inquiry more, behind the others.
     pub(crate) fn add(&mut self, inquiry: Inquiry)
-        requires { length (places_of self.old) < most_places }
-        ensures added { places_of self.new ≡ places_of self.old ++ (inquiry_of inquiry ∷ []) }
+        requires { length self.old < most_places }
+        ensures added { self.new ≡ self.old ++ (inquiry ∷ []) }
     {
         self.inquiries.push_reserved(inquiry);
     }
 
-    // The place of the first inquiry of a number.
-    pub(crate) fn place_of(&self, number: u32) -> Option<usize>
-        ensures held { HoldsAt number (places_of self.now) result }
+    // The first inquiry of a number.
+    pub(crate) fn held(&self, number: u32) -> Option<&Inquiry>
+        ensures held { option_map (λ q. q.now) result ≡ held_under number self.now }
     {
-        find(self.inquiries.as_slice(), number)
+        let place = find(self.inquiries.as_slice(), number)?;
+        Some(&self.inquiries[place])
     }
 
-    // The inquiry at this place.
-    pub(crate) fn at(&self, place: usize) -> &Inquiry
-        requires { place < length (places_of self.now) }
-        ensures inquiry { (d : InquiryByRule) → slice_index_or (places_of self.now) place d ≡ inquiry_of result.now }
+    // The first inquiry of a number is gone, if there is one.
+    pub(crate) fn free(&mut self, number: u32)
+        ensures freed { self.new ≡ without number self.old }
     {
-        &self.inquiries[place]
-    }
-
-    // The inquiry at this place is gone.
-    pub(crate) fn free(&mut self, place: usize)
-        requires { place < length (places_of self.old) }
-        ensures freed { places_of self.new ≡ left_out place (places_of self.old) }
-    {
-        let _ = self.inquiries.remove(place);
+        if let Some(place) = find(self.inquiries.as_slice(), number) {
+            let _ = self.inquiries.remove(place);
+        }
     }
 }

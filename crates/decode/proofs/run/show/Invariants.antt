@@ -1,5 +1,5 @@
-use Rattle.std.proofs.Common.{◌≤◌, length}
+use Rattle.std.proofs.Common.{length}
 use Rattle.decode.proofs.run.show.Given as goal
 
-abbrev pub invariant-loop : goal.invariant-loop
-invariant-loop l = l.at ≤ length l.stretch
+abbrev pub decreases-loop-rest : goal.decreases-loop-rest
+decreases-loop-rest l = length l.rest

@@ -1,6 +1,5 @@
-use Rattle.std.proofs.Common.{refl}
 use Rattle.station.proofs.Trying.{faults_are_earned}
 use Rattle.station.proofs.promises.attempts_made.Goals as goal
 
-pub returns : goal.returns
-returns c = record { number = refl; law = faults_are_earned }
+pub returns-clause-law : goal.returns-clause-law
+returns-clause-law c = faults_are_earned

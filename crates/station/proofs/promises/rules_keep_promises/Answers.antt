@@ -1,6 +1,5 @@
-use Rattle.std.proofs.Common.{refl}
 use Rattle.station.proofs.Keeping.{rules_keep_the_promises}
 use Rattle.station.proofs.promises.rules_keep_promises.Goals as goal
 
-pub returns : goal.returns
-returns c = record { answer = refl; law = rules_keep_the_promises }
+pub returns-clause-law : goal.returns-clause-law
+returns-clause-law c = rules_keep_the_promises

@@ -1,7 +1,8 @@
-use Rattle.std.proofs.Common.{◌+◌, take, subst, arith}
+use Rattle.std.proofs.Common.{◌<◌, ◌+◌, take, subst, arith}
 use Rattle.std.proofs.lemmas.List.{take_rest}
 use Rattle.frames.specs.Reading.{Reads, holds, found}
-use Rattle.frames.proofs.ByteLists.{bytes_append, bytes_take}
+use Rattle.std.proofs.lemmas.List.Elements.{All-append, All-take}
+use Rattle.frames.proofs.ByteLists.{bytes_told}
 use Rattle.frames.proofs.Holding.{begun_held, bytes_held}
 use Rattle.frames.proofs.Joining.{reads_on}
 use Rattle.frames.proofs.Exactness.{uses_within, uses_some, finds_exactly, cut_anywhere, one_reading}
@@ -27,7 +28,7 @@ returns c =
       some = uses_some held stretch after r used (begun_held c.args.self.now) reads;
       exactly = exact;
       written = λ before cmd body rest. finds_written cmd body held stretch before rest r used exact;
-      stands = stands_as_written held stretch after r used (bytes_append held (take used stretch) (bytes_held c.args.self.now) (bytes_take used stretch (λ i. omega (arith, c.type_inv.stretch i)))) reads;
+      stands = stands_as_written held stretch after r used (All-append (λ b. b < 256) held (take used stretch) (bytes_held c.args.self.now) (All-take (λ b. b < 256) used stretch (bytes_told stretch (λ i. omega (arith, c.type_inv.stretch i))))) reads;
       cut = cut_anywhere held stretch after r used reads;
       once = one_reading;
     }

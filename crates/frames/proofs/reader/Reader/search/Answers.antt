@@ -1,35 +1,26 @@
-use Rattle.std.proofs.Common.{◌≡◌, ◌-◌, get_or, refl, subst, arith}
+use Rattle.std.proofs.Common.{◌≡◌, ◌-◌, length, take, get_or, sym, refl, subst, arith}
+use Rattle.frames.specs.declared.reader.Stage.{Stage}
+use Rattle.frames.specs.declared.reader.Stage.TheVariants.{Hunting, Sync}
+use Rattle.frames.specs.Finding.{Waits}
+use Rattle.frames.specs.Reading.{begun}
 use Rattle.frames.proofs.Hunting.{start_held, sync_held, none_held}
 use Rattle.frames.proofs.reader.Reader.search.Goals as goal
-use Rattle.frames.proofs.reader.Reader.search.Goals.{else-at-gt0-via-then-at-gt0+else-stretch-at, else-at-gt0-via-else-at-gt0}
+use Rattle.frames.proofs.reader.Reader.search.Goals.{in-len1-up, in_default-stretch, in_default-stretch-2}
 
-pub returns-then-at-stretch : goal.returns-then-at-stretch
-returns-then-at-stretch c =
-    let told = c.start_of-at.ensures in
-    let at = told.found c.if-at-stretch.true in
-    record {
-      within = omega arith;
-      waits = start_held _ _ at.0 told.before at.1 at.2;
-      some = λ h. omega arith;
-      opened = λ h. refl;
-    }
+pub returns-in-Some-clause-waits : goal.returns-in-Some-clause-waits
+returns-in-Some-clause-waits c = let at = c.in-Some.ensures.start in start_held _ _ at.within at.first at.sync at.stx
 
-pub returns-then-stretch-at : goal.returns-then-stretch-at
-returns-then-stretch-at c = record {
-  within = omega arith;
-  waits = sync_held _ _ (c.start_of-at.result - 1) (omega arith) (omega arith) c.start_of-at.ensures.before c.if-stretch-at.true;
-  some = λ h. omega arith;
-  opened = λ h. absurd (omega arith);
-}
-
-pub returns : goal.returns
-returns c = record {
-  within = omega arith;
-  waits = none_held _ _ (omega arith) c.start_of-at.ensures.before
-      (λ m e sync. elim c.else-at-gt0.branch [
-        | else-at-gt0-via-then-at-gt0+else-stretch-at w ↦ w.if-stretch-at.false (subst (λ i. get_or c.args.stretch.now i 0 ≡ 0xFF) (let z : m ≡ c.start_of-at.result - 1 = omega arith in z) sync)
-        | else-at-gt0-via-else-at-gt0 w ↦ omega arith
-      ]);
-  some = λ h. omega arith;
-  opened = λ h. absurd (omega arith);
-}
+pub returns-clause-waits : goal.returns-clause-waits
+returns-clause-waits c =
+    let bytes = c.args.stretch.now in
+    let n = length bytes in
+    let unmarked = c.in_default.ensures.none in
+    -- what is held at a stage
+    let at : (s : Stage) → c.if-stretch-lt1.self ≡ s → Waits (take n bytes) (begun s c.args.self.now.body) → Waits (take n bytes) (begun c.if-stretch-lt1.self c.args.self.now.body) =
+    λ s e w. subst (λ t. Waits (take n bytes) (begun t c.args.self.now.body)) (sym e) w in
+    elim c.if-stretch-lt1.branch [
+      | in-len1-up w ↦ at Sync w.self-is (sync_held bytes n (n - 1) (omega arith) refl unmarked w.if-last.true)
+      | in_default-stretch w ↦ at Hunting w.self-is (none_held bytes n refl unmarked (λ m e sync. omega arith))
+      | in_default-stretch-2 w ↦ at Hunting w.self-is
+          (none_held bytes n refl unmarked (λ m e sync. w.if-last.false (subst (λ i. get_or bytes i 0 ≡ 0xFF) (let z : m ≡ n - 1 = omega arith in z) sync)))
+    ]

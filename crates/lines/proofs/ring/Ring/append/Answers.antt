@@ -1,23 +1,20 @@
--- Each byte finds room, and in the end all have gone in.
-use Rattle.std.proofs.Common.{◌∙◌, arith}
+-- Both parts of the stretch are copied behind the last byte.
+use Rattle.std.proofs.Common.{◌≡◌, ◌++◌, length, ap, ◌∙◌, arith, take-append-drop}
 use Rattle.lines.specs.Rings.{held}
-use Rattle.lines.proofs.Stretches.{length_appended, appended_more, appended_all}
+use Rattle.lines.proofs.RingBytes.{stretch_added}
 use Rattle.lines.proofs.ring.Ring.append.Goals as goal
 
-pub push-requires : goal.push-requires
-push-requires c =
-    omega (arith, length_appended (held c.args.self.now) c.args.bytes.now c.loop-byte.byte-index c.loop-byte.auto.byte-index-end c.loop-byte.invariant.0)
-
-pub loop-byte-preserved : goal.loop-byte-preserved
-loop-byte-preserved c = (
-  appended_more (held c.args.self.now) c.args.bytes.now c.loop-byte.byte-index c.loop-byte-test.true c.loop-byte.invariant.0 c.push.ensures.pushed,
-  c.push.ensures.sized ∙ c.loop-byte.invariant.1,
-  c.loop-byte.invariant.2,
-)
-
-pub returns : goal.returns
-returns c =
+pub returns-clause-appended : goal.returns-clause-appended
+returns-clause-appended c =
+    let ring = c.args.self.now in
+    let bytes = c.args.bytes.now in
+    let front : length c.copy_from_slice.new.self ≡ length c.split_at.result.0.now = ap length c.copy_from_slice.ensures.after in
+    let back : length c.copy_from_slice-2.new.self ≡ length c.split_at.result.1.now = ap length c.copy_from_slice-2.ensures.after in
+    let whole : c.copy_from_slice.new.self ++ c.copy_from_slice-2.new.self ≡ bytes = cc (take-append-drop c.min.result bytes) in
     record {
-      appended = record { fits = c.loop-byte.invariant.2; gained = appended_all (held c.args.self.now) c.args.bytes.now c.loop-byte.byte-index c.loop-byte-test.false c.loop-byte.invariant.0 };
-      sized = c.loop-byte.invariant.1;
+      fits = omega arith;
+      gained =
+          stretch_added ring.memory.now _ _ ring.head ring.len c.place-start.result _ _ _ ring.begins
+          c.place-start.ensures.straight c.place-start.ensures.round (omega arith) (omega arith) (omega arith) (omega arith) (omega arith)
+          ∙ ap (λ part. held ring ++ part) whole;
     }

@@ -5,9 +5,6 @@ use Rattle.parameters.specs.Routes.{stops, route_form}
 use Rattle.parameters.proofs.RouteForm.{byte_behind, none_behind}
 use Rattle.parameters.proofs.route.RouteValue.byte.Goals as goal
 
-pub overflow_cast-result : goal.overflow_cast-result
-overflow_cast-result g c = omega (arith, c.addresses-addresses.ensures.countable)
-
 pub returns-in_err-get : goal.returns-in_err-get
 returns-in_err-get g c =
     let k = c.args.place - 1 in

@@ -1,20 +1,19 @@
-use Rattle.std.proofs.Common.{refl}
-use Rattle.station.specs.Tables.{places_of}
-use Rattle.station.proofs.Looking.{in_table}
-use Rattle.station.proofs.AttemptsMade.{attempt_made, none_due}
+use Rattle.std.proofs.Common.{refl, rules}
+use Rattle.station.specs.Inquiries.{is_due}
+use Rattle.station.proofs.Firsts.{attempt_made, none_due}
 use Rattle.station.proofs.places.Places.attempt.Goals as goal
-
-pub index_mut-requires : goal.index_mut-requires
-index_mut-requires g c = in_table c.args.self.now c.in-Some.place c.in-Some.ensures.within
 
 pub returns-in-Some : goal.returns-in-Some
 returns-in-Some g c =
-    let found = c.in-Some.ensures in
+    let lent = rw c.in-Some.is at (c.first_mut.follows.holds c.attempt.new.self) in
     record {
-      attempted = attempt_made c.args.self.now (g.L.Line.meaning c.args.line.now) c.in-Some.place c.index_mut.result.now c.attempt.new.self _ (g.L.Line.meaning c.attempt.new.line)
-          found.place found.within c.index_mut.ensures.value c.attempt.ensures.tries refl;
-      fixed = c.attempt.ensures.fixed;
+      attempted = record {
+        rule = rw (lent is_due (λ q b r. search rules))
+            (attempt_made c.args.self.now (g.L.Line.meaning c.args.line.now) _ _ (g.L.Line.meaning c.attempt.new.line) (c.in-Some.ensures.held is_due (λ q b r. search rules)) c.attempt.ensures.tries.rule);
+        fixed = c.attempt.ensures.tries.fixed;
+      };
     }
 
 pub returns-in_default : goal.returns-in_default
-returns-in_default g c = record { attempted = none_due (places_of c.args.self.now) (g.L.Line.meaning c.args.line.now) c.in_default.ensures.place; fixed = refl }
+returns-in_default g c =
+    record { attempted = record { rule = rw c.first_mut.follows.holds-at-none (none_due c.args.self.now (g.L.Line.meaning c.args.line.now) (c.in_default.ensures.held is_due (λ q b r. search rules))); fixed = refl } }

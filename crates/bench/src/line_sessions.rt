@@ -1,0 +1,52 @@
+// Lines that are made, and the commands that are said to them until something else is made.
+use super::command::Maker;
+use super::failure::Failure;
+use super::line_ends::{TapeEnd, WireEnd};
+use super::rig::Rig;
+use super::stand::Stand;
+use super::subject::{Boxable, play, play_to_box};
+use lines::tape::Tape;
+use lines::wire::Wire;
+use std::ops::ControlFlow;
+
+pub fn on_wire(
+    incoming: usize,
+    outgoing: usize,
+    stand: &mut Stand<'_>,
+) -> Result<Option<Maker>, Failure> {
+    let heap = stand.heap();
+    let mut ring_in = vec![in heap; 0u8; incoming]?;
+    let mut ring_out = vec![in heap; 0u8; outgoing]?;
+    stand.say(format_args!("made wire {incoming} {outgoing}"))?;
+    let wire = Wire::new(&mut ring_in, &mut ring_out);
+    on_line(Rig::new(wire, WireEnd), stand)
+}
+
+pub fn on_tape(capture: &[u8], stand: &mut Stand<'_>) -> Result<Option<Maker>, Failure> {
+    let count = capture.len();
+    stand.say(format_args!("made tape {count}"))?;
+    on_line(Rig::new(Tape::new(capture), TapeEnd), stand)
+}
+
+// Plays on a line, and with each box that is put around it, up to the third. A line with another number of boxes
+// around it is of another type.
+// kept: (d) a `match` for each box, since each of the three is of another type; one function that calls itself would need `type Boxed: Boxable`, a bound that recurs and is refused.
+fn on_line<S>(bare: S, stand: &mut Stand<'_>) -> Result<Option<Maker>, Failure>
+where
+    S: Boxable,
+    S::Boxed: Boxable,
+    <S::Boxed as Boxable>::Boxed: Boxable,
+{
+    let once = match play_to_box(bare, 1, stand)? {
+        ControlFlow::Continue(once) => once,
+        ControlFlow::Break(next) => return Ok(next),
+    };
+    let twice = match play_to_box(once, 2, stand)? {
+        ControlFlow::Continue(twice) => twice,
+        ControlFlow::Break(next) => return Ok(next),
+    };
+    match play_to_box(twice, 3, stand)? {
+        ControlFlow::Continue(mut thrice) => play(&mut thrice, stand),
+        ControlFlow::Break(next) => Ok(next),
+    }
+}
