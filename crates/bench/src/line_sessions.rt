@@ -30,23 +30,30 @@ pub fn on_tape(capture: &[u8], stand: &mut Stand<'_>) -> Result<Option<Maker>, F
 
 // Plays on a line, and with each box that is put around it, up to the third. A line with another number of boxes
 // around it is of another type.
-// kept: (d) a `match` for each box, since each of the three is of another type; one function that calls itself would need `type Boxed: Boxable`, a bound that recurs and is refused.
 fn on_line<S>(bare: S, stand: &mut Stand<'_>) -> Result<Option<Maker>, Failure>
 where
     S: Boxable,
     S::Boxed: Boxable,
     <S::Boxed as Boxable>::Boxed: Boxable,
 {
-    let once = match play_to_box(bare, 1, stand)? {
-        ControlFlow::Continue(once) => once,
-        ControlFlow::Break(next) => return Ok(next),
-    };
-    let twice = match play_to_box(once, 2, stand)? {
-        ControlFlow::Continue(twice) => twice,
-        ControlFlow::Break(next) => return Ok(next),
-    };
-    match play_to_box(twice, 3, stand)? {
+    match boxed_thrice(bare, stand) {
         ControlFlow::Continue(mut thrice) => play(&mut thrice, stand),
-        ControlFlow::Break(next) => Ok(next),
+        ControlFlow::Break(end) => end,
     }
+}
+
+// Plays on a line up to the third box, or to what comes before that: what is to be made next, or a failure.
+// kept: (d) a line for each box, since each of the three is of another type; one function that calls itself would need `type Boxed: Boxable`, a bound that recurs and is refused.
+fn boxed_thrice<S>(
+    bare: S,
+    stand: &mut Stand<'_>,
+) -> ControlFlow<Result<Option<Maker>, Failure>, <<S::Boxed as Boxable>::Boxed as Boxable>::Boxed>
+where
+    S: Boxable,
+    S::Boxed: Boxable,
+    <S::Boxed as Boxable>::Boxed: Boxable,
+{
+    let once = play_to_box(bare, 1, stand)?;
+    let twice = play_to_box(once, 2, stand)?;
+    play_to_box(twice, 3, stand)
 }

@@ -11,7 +11,7 @@ pub fn findings(heap: Global, reader: &mut Reader, stretch: &[u8]) -> Answer {
     let count = stretch.len();
     let mut text = format!(in heap; "read {count}:")?;
     let mut rest = stretch;
-    // kept: (d) a loop, as in `station` and `decode`: an iterator would hold the reader and the stretch, and between two findings `station` answers with all of itself, and `decode` counts the bytes used and stops where it has no more room.
+    // kept: (d) a loop, as in `station` and `decode`: an iterator would be a struct and an impl with its laws, and `decode` stops in between where it has no more room.
     while !rest.is_empty() {
         let (finding, used) = reader.read(rest);
         rest = &rest[used..];

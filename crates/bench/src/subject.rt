@@ -30,9 +30,12 @@ pub fn play_to_box<S: Boxable>(
     mut subject: S,
     number: u8,
     stand: &mut Stand<'_>,
-) -> Result<ControlFlow<Option<Maker>, S::Boxed>, Failure> {
-    let turn = say_commands(&mut subject, Some(number), stand)?;
-    Ok(turn.map_continue(|()| subject.boxed()))
+) -> ControlFlow<Result<Option<Maker>, Failure>, S::Boxed> {
+    match say_commands(&mut subject, Some(number), stand) {
+        Ok(ControlFlow::Continue(())) => ControlFlow::Continue(subject.boxed()),
+        Ok(ControlFlow::Break(next)) => ControlFlow::Break(Ok(next)),
+        Err(failure) => ControlFlow::Break(Err(failure)),
+    }
 }
 
 // Says the commands of the script to a subject for as long as they are for it: up to what is to be made next, or to

@@ -1,5 +1,4 @@
 // The texts that answers are made of.
-// kept: (d) `heap` is handed to what allocates, as std does it; a struct around it would be taken apart at each call.
 use super::mistake::Answer;
 use std::alloc::Global;
 use std::fmt;
@@ -31,6 +30,7 @@ impl<R: fmt::Debug> fmt::Display for Refused<R> {
 }
 
 // A text that is the same each time.
+// kept: (d) `heap` is handed to what allocates, as std does it; a struct around it would be taken apart at each call.
 pub fn plain(heap: Global, text: &str) -> Answer {
     Ok(String::from_str(heap, text)?)
 }

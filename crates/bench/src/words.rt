@@ -4,11 +4,8 @@ use super::command::{Command, FreeCall, Maker};
 use super::forms::no_command;
 use super::kind::Kind;
 use super::mistake::Mistake;
-use frames::frame::{AROUND_DATA, MOST_DATA};
+use frames::frame::LONGEST;
 use std::alloc::Global;
-
-// Room for every frame.
-const ROOM: usize = MOST_DATA + AROUND_DATA;
 
 // The name of a command, and the words behind it.
 #[derive(Clone, Copy)]
@@ -83,7 +80,7 @@ impl<'w, 'a> Words<'w, 'a> {
     // What needs nothing made before.
     fn free_call(self) -> Result<Option<FreeCall>, Mistake<'a>> {
         Ok(Some(match (self.name, self.arguments) {
-            ("write", [cmd, data @ ..]) => self.frame(ROOM, cmd, data)?,
+            ("write", [cmd, data @ ..]) => self.frame(LONGEST, cmd, data)?,
             ("write-in", [memory, cmd, data @ ..]) => self.frame(number_of(memory)?, cmd, data)?,
             ("board", [kind]) => FreeCall::Board(Kind::try_from(*kind)?),
             ("admits", [kind, mode]) => FreeCall::Admits(Kind::try_from(*kind)?, mode_of(mode)?),

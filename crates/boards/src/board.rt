@@ -1,5 +1,5 @@
 // Board kinds: the default mode, whether power can be set, and which modes are admitted.
-ghost use Rattle.std.specs.Prelude.{◌≡◌, ℕ, Bool, true, refl};
+ghost use Rattle.std.specs.Prelude.{◌≡◌, true, refl};
 ghost use Rattle.boards.specs.Boards.{Kind, admitted, wavecard_25, wavecard_500, waveport_915};
 
 /// A kind of board.
@@ -12,34 +12,21 @@ pub trait Board {
     // What is fixed about the kind.
     ghost kind: { Kind };
 
-    // The constants, as contracts name them.
-    ghost DEFAULT_MODE: { ℕ };
-
-    ghost POWER_SETTABLE: { Bool };
-
     // The default mode is admitted.
     ghost settled: { admitted kind kind.default_mode ≡ true };
 
-    /// The default mode.
+    /// The default mode. A contract cannot name an associated constant by itself, so this call vouches for it.
+    // kept: (a) asked of each kind, and no default method, which was tried and proves: for it each kind has to name its constants in ghost members too, which asks more of who writes one.
     fn first_mode(&self) -> u16
-        ensures mode { result ≡ kind.default_mode }
-    {
-        Self::DEFAULT_MODE
-    }
+        ensures mode { result ≡ kind.default_mode };
 
-    /// Whether power can be set.
+    /// Whether power can be set, vouched for likewise.
     fn lets_power_be_set(&self) -> bool
-        ensures settable { result ≡ kind.power_settable }
-    {
-        Self::POWER_SETTABLE
-    }
+        ensures settable { result ≡ kind.power_settable };
 
     /// Whether the kind admits a mode.
     fn admits(&self, mode: u16) -> bool
         ensures admits { result ≡ admitted kind mode };
-
-    // The constants are those of the kind.
-    ghost constants: { (DEFAULT_MODE ≡ kind.default_mode) × (POWER_SETTABLE ≡ kind.power_settable) };
 }
 
 /// The WaveCard of 25 mW.
@@ -69,13 +56,15 @@ impl Board for WaveCard25 {
 
     ghost kind = { wavecard_25 };
 
-    ghost DEFAULT_MODE = { wavecard_25.default_mode };
-
-    ghost POWER_SETTABLE = { wavecard_25.power_settable };
-
-    ghost constants = { (refl, refl) };
-
     ghost settled = { refl };
+
+    fn first_mode(&self) -> u16 {
+        Self::DEFAULT_MODE
+    }
+
+    fn lets_power_be_set(&self) -> bool {
+        Self::POWER_SETTABLE
+    }
 
     fn admits(&self, mode: u16) -> bool {
         wavecard_admits(mode)
@@ -89,13 +78,15 @@ impl Board for WaveCard500 {
 
     ghost kind = { wavecard_500 };
 
-    ghost DEFAULT_MODE = { wavecard_500.default_mode };
-
-    ghost POWER_SETTABLE = { wavecard_500.power_settable };
-
-    ghost constants = { (refl, refl) };
-
     ghost settled = { refl };
+
+    fn first_mode(&self) -> u16 {
+        Self::DEFAULT_MODE
+    }
+
+    fn lets_power_be_set(&self) -> bool {
+        Self::POWER_SETTABLE
+    }
 
     fn admits(&self, mode: u16) -> bool {
         wavecard_admits(mode)
@@ -109,13 +100,15 @@ impl Board for Waveport915 {
 
     ghost kind = { waveport_915 };
 
-    ghost DEFAULT_MODE = { waveport_915.default_mode };
-
-    ghost POWER_SETTABLE = { waveport_915.power_settable };
-
-    ghost constants = { (refl, refl) };
-
     ghost settled = { refl };
+
+    fn first_mode(&self) -> u16 {
+        Self::DEFAULT_MODE
+    }
+
+    fn lets_power_be_set(&self) -> bool {
+        Self::POWER_SETTABLE
+    }
 
     fn admits(&self, mode: u16) -> bool {
         mode == Self::DEFAULT_MODE

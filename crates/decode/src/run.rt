@@ -45,6 +45,7 @@ fn decode_all<R: Read>(rt: &HostRuntime, input: &mut R, hex: bool) -> Result<(),
         if stretch.is_empty() {
             break;
         }
+        // kept: (d) a test at each stretch and no closure: what turns digits into bytes is asked once more at the end, and its faults are passed on.
         if hex {
             bytes.clear();
             digits.read(stretch, &mut bytes)?;
@@ -58,6 +59,7 @@ fn decode_all<R: Read>(rt: &HostRuntime, input: &mut R, hex: bool) -> Result<(),
 }
 
 // What the input gives next, read into the buffer; nothing at its end.
+// kept: (d) an empty stretch for the end and no Option, as in the library's `read`.
 fn next_stretch<'a, R: Read>(input: &mut R, buffer: &'a mut [u8]) -> Result<&'a [u8], Failure> {
     let count = input.read(buffer).map_err(Failure::Read)?;
     Ok(&buffer[..count])

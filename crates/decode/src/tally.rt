@@ -30,7 +30,8 @@ impl Tally {
     pub fn frame(&mut self, cmd: u8, size: u64)
         ensures frames { self.new.frames ≡ slice_set self.old.frames cmd (raised (slice_index self.old.frames cmd) 1) }
         ensures used { self.new.used ≡ raised self.old.used size }
-        ensures kept { self.new.bytes ≡ self.old.bytes }
+        ensures drops { self.new.drops ≡ self.old.drops }
+        ensures bytes { self.new.bytes ≡ self.old.bytes }
     {
         raise(&mut self.frames, usize::from(cmd));
         self.used = self.used.saturating_add(size);
@@ -40,7 +41,8 @@ impl Tally {
     pub fn drop(&mut self, cause: Cause, size: u64)
         ensures counted { DropCounted self.old cause self.new }
         ensures used { self.new.used ≡ raised self.old.used size }
-        ensures kept { self.new.frames ≡ self.old.frames }
+        ensures frames { self.new.frames ≡ self.old.frames }
+        ensures bytes { self.new.bytes ≡ self.old.bytes }
     {
         raise(&mut self.drops, cause as usize);
         self.used = self.used.saturating_add(size);

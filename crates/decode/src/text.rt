@@ -1,30 +1,35 @@
 // Text that is gathered before it is written.
-ghost use Rattle.std.specs.Prelude.{◌≡◌, ◌+◌, ◌*◌, ◌≤◌, ◌↔◌, IsTrue, IfOk, [], length, vec_len, vec_capacity};
+ghost use Rattle.std.specs.Prelude.{◌≡◌, ◌+◌, ◌*◌, ◌≤◌, ◌↔◌, List, ℕ, IsTrue, IfOk, [], length, vec_items, vec_len, vec_capacity};
 ghost use Rattle.decode.specs.Hex.{hex_text};
+ghost use Rattle.decode.specs.Text.{Pushed};
 ghost use Rattle.decode.specs.declared.text.TheConstants.{MOST};
 
 use super::hex::write_all;
 use std::alloc::{AllocError, Global};
+use std::marker::Model;
 
 // How many bytes of text are gathered at most, and how many a line may need.
 const MOST: usize = 65536;
 
 const LINE: usize = 1024;
 
-// kept: (d) no model: a clause would say `self.new` for `text_of self.new`, the items of the one field.
 #[derive(Drop)]
 pub struct Text {
     bytes: Vec<u8>,
-    ghost within: { vec_len bytes ≤ MOST },
-    // all of it was allocated when the text was made
-    ghost room: { MOST ≤ vec_capacity bytes },
+}
+
+// A text is its bytes; what it may need at most was allocated when it was made.
+impl Model for Text {
+    ghost Value = { List ℕ };
+
+    ghost view = { λ t. vec_items t.bytes };
+
+    ghost invariant = { λ t. (vec_len t.bytes ≤ MOST) × (MOST ≤ vec_capacity t.bytes) };
 }
 
 impl Text {
-    ghost use Rattle.decode.specs.Text.{text_of, Pushed};
-
     pub fn new(heap: Global) -> Result<Text, AllocError>
-        ensures { IfOk result (λ t. text_of t ≡ []) }
+        ensures { IfOk result (λ t. t ≡ []) }
     {
         Ok(Text {
             bytes: Vec::with_capacity(heap, MOST)?,
@@ -33,20 +38,20 @@ impl Text {
 
     // Whether a line more has room.
     pub fn has_room(&self) -> bool
-        ensures { IsTrue result ↔ (length (text_of self.now) + LINE ≤ MOST) }
+        ensures { IsTrue result ↔ (length self.now + LINE ≤ MOST) }
     {
         self.bytes.len() <= MOST - LINE
     }
 
     // The text so far.
     pub fn as_bytes(&self) -> &[u8]
-        ensures { result.now ≡ text_of self.now }
+        ensures { result.now ≡ self.now }
     {
         self.bytes.as_slice()
     }
 
     pub fn clear(&mut self)
-        ensures { text_of self.new ≡ [] }
+        ensures { self.new ≡ [] }
     {
         self.bytes.clear();
     }
@@ -66,7 +71,7 @@ impl Text {
     {
         let start = self.bytes.len();
         if data.len() <= (MOST - start) / 3 {
-            // kept: (b) with each byte's text added to the `Vec` a capture of 64 MiB takes 51 ms more, added to an `ArrayVec` 26 ms more.
+            // kept: (b) a capture of 64 MiB takes 282 ms, 0.93 of plain Rust's time (`benches/decode/run.sh`); with each byte's text added to the `Vec` 334 ms, 1.11 of it, added to an `ArrayVec` 304 ms, 1.01 of it.
             self.bytes.resize(start + 3 * data.len(), b' ').unwrap();
             write_all(&mut self.bytes[start..], data);
         }

@@ -16,12 +16,16 @@ pub const MOST_DATA: usize = 250;
 // The bytes of a frame around its DATA: SYNC, STX, LENGTH, CMD, two of the check value, ETX.
 pub const AROUND_DATA: usize = 7;
 
+// How many bytes the longest frame has.
+pub const LONGEST: usize = MOST_DATA + AROUND_DATA;
+
 // What LENGTH counts besides the DATA: itself, CMD and the check value.
 pub(crate) const COUNTED: usize = 4;
 
 // The LENGTH of the longest frame.
 pub(crate) const MOST_LENGTH: usize = MOST_DATA + COUNTED;
 
+// kept: (a) no model: that of a `Copy` type may forget nothing, and a frame's data forgets the rest of its array.
 #[derive(Clone, Copy)]
 pub struct Frame {
     cmd: u8,

@@ -8,7 +8,7 @@ use super::frame::{AROUND_DATA, COUNTED, ETX, MOST_DATA, STX, SYNC};
 use super::refusal::Refusal;
 
 // Writes the frame of a command and its data to the start of the memory, and answers its length.
-// kept: (d) CMD and data and no `&Frame`: who writes has them apart, and data that a frame cannot carry are refused here.
+// kept: (a) CMD and data and no `&Frame`: the call is public, and data that a frame cannot carry are refused by it.
 pub fn write(memory: &mut [u8], cmd: u8, data: &[u8]) -> Result<usize, Refusal>
     ensures refused { cause_of result ≡ write_cause (long «data».now) (long memory.old) }
     ensures written { Written cmd «data».now memory.old memory.new result }

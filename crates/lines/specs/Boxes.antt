@@ -4,7 +4,6 @@ use Rattle.lines.specs.declared.refusal.Refusal.{Refusal}
 use Rattle.lines.specs.declared.script.Entry.{Entry}
 use Rattle.lines.specs.declared.fault_box.FaultBox.{FaultBox}
 use Rattle.lines.specs.Meaning.{Meaning, Put}
-use Rattle.lines.specs.Scripts.{scripted}
 use Rattle.lines.specs.Faults.{faulted, position_after}
 
 -- Where a box stands: its script, and the position of the next byte from below.
@@ -19,7 +18,7 @@ pub record Boxed : Type 0 where
 
 -- Where a box stands.
 abbrev pub box_setting : {L : Type 0} → FaultBox L → Setting
-box_setting box = record { script = scripted box.script; position = box.position }
+box_setting box = record { script = box.script; position = box.position }
 
 -- What a box holds, given what lines of its kind below mean.
 abbrev pub boxed : {L : Type 0} → (L → Meaning) → FaultBox L → Boxed
@@ -27,7 +26,7 @@ boxed meaning box = record { setting = box_setting box; below = meaning box.belo
 
 -- What no call of a line changes in a box: its script, and what is fixed below.
 abbrev pub box_fixed : {L Fixture : Type 0} → (L → Fixture) → FaultBox L → List Entry × Fixture
-box_fixed fixed box = (scripted box.script, fixed box.below)
+box_fixed fixed box = (box.script, fixed box.below)
 
 -- The line that a box makes: its waiting bytes are those below after the script, and the rest is as below.
 abbrev pub box_line : Boxed → Meaning

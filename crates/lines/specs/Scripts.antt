@@ -6,13 +6,9 @@ use Rattle.lines.specs.declared.script.Script.{Script}
 use Rattle.lines.specs.Refusals.{refusal_number}
 use Rattle.lines.specs.Faults.{lawful_script}
 
--- The entries of a script.
-abbrev pub scripted : Script → List Entry
-scripted script = script.entries.items
-
 -- Reading gives the script with just these entries if they make one, and is refused with 14 otherwise.
 abbrev pub Read : List Entry → Result Script Refusal → Type 0
-Read entries (Ok script) = (lawful_script entries ≡ true) × (scripted script ≡ entries)
+Read entries (Ok script) = (lawful_script entries ≡ true) × (script ≡ entries)
 Read entries (Err refusal) = (lawful_script entries ≡ false) × (refusal_number refusal ≡ 14)
 
 -- Loading puts the entries in the script's place if they make one, and is refused with 14 otherwise, when the script stays.

@@ -24,12 +24,12 @@ impl<L: Line> FaultBox<L> {
     ghost use Rattle.std.specs.Prelude.{◌≡◌, []};
     ghost use Rattle.lines.specs.Boxes.{box_meaning, EmptyScriptIsClear};
     ghost use Rattle.lines.specs.Faults.{PositionCountsBytes};
-    ghost use Rattle.lines.specs.Scripts.{scripted, Loaded};
+    ghost use Rattle.lines.specs.Scripts.{Loaded};
 
     // A box around a line, with an empty script.
     pub fn new(below: L) -> Self
         ensures below { result.below ≡ below }
-        ensures empty { scripted result.script ≡ [] }
+        ensures empty { result.script ≡ [] }
         ensures first { result.position ≡ 0 }
         ensures same { box_meaning L.Line.meaning result ≡ L.Line.meaning below }
         ensures clear { EmptyScriptIsClear }
@@ -44,7 +44,7 @@ impl<L: Line> FaultBox<L> {
 
     // Puts another script in the place of the one before, or refuses it.
     pub fn load(&mut self, entries: &[Entry]) -> Result<(), Refusal>
-        ensures loaded { Loaded (scripted self.old.script) entries.now result (scripted self.new.script) }
+        ensures loaded { Loaded self.old.script entries.now result self.new.script }
         ensures below { self.new.below ≡ self.old.below }
         ensures position { self.new.position ≡ self.old.position }
     {

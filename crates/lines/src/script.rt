@@ -1,10 +1,11 @@
 // A script of faults: at which positions a byte is lost or changed.
 ghost use Rattle.std.specs.Prelude.{◌≡◌, []};
 ghost use Rattle.lines.specs.Faults.{mask_at, spoiled, rising};
-ghost use Rattle.lines.specs.Scripts.{scripted, Read};
+ghost use Rattle.lines.specs.Scripts.{Read};
 
 use crate::refusal::Refusal;
 use arrayvec::ArrayVec;
+use std::marker::Model;
 
 // One fault: the byte at the position is lost under mask 0, and exclusive-ored with another mask.
 // kept: (a) mask 0 stands for a loss, since the project gives a script's entries as positions and masks of 8 bits.
@@ -21,6 +22,15 @@ const MOST: usize = 16;
 #[derive(Default, Drop)]
 pub(crate) struct Script {
     entries: ArrayVec<Entry, MOST>,
+}
+
+impl Model for Script {
+    ghost use Rattle.std.specs.Prelude.{List};
+    ghost use Rattle.lines.specs.declared.script.Entry.{Entry};
+
+    ghost Value = { List Entry };
+
+    ghost view = { λ s. s.entries.items };
 }
 
 impl TryFrom<&[Entry]> for Script {
@@ -41,7 +51,7 @@ impl TryFrom<&[Entry]> for Script {
 impl Script {
     // The byte that comes out at a position, or none if it is lost.
     pub(crate) fn spoil(&self, position: u32, byte: u8) -> Option<u8>
-        ensures out { result ≡ spoiled (scripted self.now) position byte }
+        ensures out { result ≡ spoiled self.now position byte }
     {
         match self.mask_at(position) {
             None => Some(byte),
@@ -52,7 +62,7 @@ impl Script {
 
     // The mask for a position, if there is one.
     fn mask_at(&self, position: u32) -> Option<u8>
-        ensures found { result ≡ mask_at (scripted self.now) position }
+        ensures found { result ≡ mask_at self.now position }
     {
         self.entries
             .iter()

@@ -10,6 +10,7 @@ use crate::refusal::Refusal;
 use crate::ring::Ring;
 
 // The bytes on the way in and the bytes on the way out.
+// kept: (d) no model: `meaning` of the trait is its view, and a model would say the same once more.
 #[derive(Drop)]
 pub struct Wire<'a> {
     incoming: Ring<'a>,

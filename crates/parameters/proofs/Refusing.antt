@@ -12,7 +12,7 @@ module _ (image : List ℕ) where
   right_length : length image ≡ 268 → judged ≡ refusal image
   right_length whole = sym (cond-true (eqb (length image) 268) judged (Some 12) (eq-eqb (length image) 268 whole))
 
-  pub unlawful_bytes : length image ≡ 268 → false ≡ sound_among image parameters → Some 13 ≡ refusal image
+  unlawful_bytes : length image ≡ 268 → false ≡ sound_among image parameters → Some 13 ≡ refusal image
   unlawful_bytes whole unsound =
       sym (cond-false (sound_among image parameters) None (Some 13) (sym unsound)) ∙ right_length whole
 

@@ -47,14 +47,13 @@ impl<'a> ImageStore<'a> {
                 image,
             });
         }
-        // kept: (d) no `map` and `map_err`, since the bytes move into what is made in either arm.
-        match TableStore::read(image) {
-            Ok(table) => Ok(ImageStore { image, table }),
-            Err(Unlawful) => Err(Unopened {
+        let Ok(table) = TableStore::read(image) else {
+            return Err(Unopened {
                 refusal: Refusal::UnlawfulBytes,
                 image,
-            }),
-        }
+            });
+        };
+        Ok(ImageStore { image, table })
     }
 
     /// The handed-over bytes.
@@ -106,7 +105,7 @@ fn is_blank(bytes: &[u8]) -> bool
 }
 
 // Where the bytes of a parameter start in the image.
-// kept: (c) tried: the widths of `ROWS` before it, by take_while, map and sum; the goals `sum-requires-clause-fits` and `returns` stay open.
+// kept: (c) tried: the widths of `ROWS` before it, by `take_while` and `fold`; the goal `returns` stays open.
 pub(crate) fn start_of(parameter: Parameter) -> usize
     ensures start { result ≡ start_of parameter }
 {

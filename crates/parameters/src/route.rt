@@ -13,6 +13,7 @@ use super::value::Value;
 pub struct Address(pub u8, pub u8, pub u8, pub u8, pub u8, pub u8);
 
 /// A route of at most MOST addresses.
+// kept: (a) no model: that of a `Copy` type may forget nothing, and a route's addresses forget the rest of its array.
 #[derive(Clone, Copy)]
 pub struct Route<const MOST: usize> {
     // kept: (c) a count beside an array, not an ArrayVec, as a route is Copy; a count past the array counts as the whole array, and no ghost field bounds it: beside one, `ImageStore::open` gets no proof (a type argument holds a `&mut` and a struct that has a ghost field).

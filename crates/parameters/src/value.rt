@@ -62,7 +62,7 @@ impl<C: Coded + Copy> Value for C {
     }
 
     fn byte(&self, place: usize) -> Option<u8> {
-        if place == 0 { Some(self.code()) } else { None }
+        (place == 0).then(|| self.code())
     }
 
     fn write(&mut self, value: &[u8]) -> Result<(), Unlawful> {

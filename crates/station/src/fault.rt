@@ -17,6 +17,7 @@ pub enum Fault {
     NoRadioAnswer = 25,
 }
 
+// kept: (d) `number` of faults and of refusals, each a cast: a trait for both would be longer than the two.
 impl Fault {
     pub fn number(self) -> u8
         ensures { result ≡ fault_number self }

@@ -5,12 +5,9 @@ ghost use Rattle.station.specs.Stations.{has_space};
 ghost use Rattle.station.specs.Moving.{Moves};
 ghost use Rattle.station.specs.Putting.{writable, PutsIf};
 
-use frames::frame::{AROUND_DATA, MOST_DATA};
+use frames::frame::LONGEST;
 use frames::writing::write;
 use lines::line::Line;
-
-// How many bytes the longest frame has.
-const LONGEST: usize = MOST_DATA + AROUND_DATA;
 
 // Puts a frame whole if it can be written and the line has space for it, and not at all otherwise; whether it did.
 // kept: (d) CMD and data and no `&Frame`, since a reply is a control frame's, and `Frame::of` would copy 250 bytes and answer a Result that cannot be refused here.

@@ -28,6 +28,7 @@ fn same_address(received: &[u8], sent: &[u8]) -> bool
     }
 }
 
+// kept: (d) CMD and data of a frame apart in clauses, here and elsewhere: the rules speak of them apart.
 impl Inquiry {
     // The stage to which a frame brings the inquiry.
     pub(crate) fn hear(&mut self, frame: &Frame)

@@ -1,11 +1,10 @@
 use Rattle.std.proofs.Common.{◌≡◌, ◌<◌, ◌⊎◌, ◌≤◌, [], length}
-use Rattle.decode.specs.Text.{text_of}
 use Rattle.decode.proofs.decoder.Decoder.read.Given as goal
 
 abbrev pub invariant-loop-self : goal.invariant-loop-self
 invariant-loop-self l = record {
   within : length l.rest ≤ length l.stretch;
-  some : (text_of l.self.lines ≡ []) ⊎ (length l.rest < length l.stretch);
+  some : (l.self.lines ≡ []) ⊎ (length l.rest < length l.stretch);
 }
 
 abbrev pub decreases-loop-self : goal.decreases-loop-self

@@ -5,7 +5,7 @@ use Rattle.lines.proofs.fault_box.FaultBox.new.Goals as goal
 
 pub returns-clause-same : goal.returns-clause-same
 returns-clause-same g c =
-    empty_is_clear (record { setting = record { script = c.default.result.entries.items; position = 0 }; below = g.L.Line.meaning c.args.below }) (search rules)
+    empty_is_clear (record { setting = record { script = c.default.result; position = 0 }; below = g.L.Line.meaning c.args.below }) (search rules)
 
 pub returns-clause-clear : goal.returns-clause-clear
 returns-clause-clear g c = empty_is_clear

@@ -17,5 +17,5 @@ returns-in-Some-spoil-clause-through g c =
 
 pub returns-in-Some-spoil-clause-taken : goal.returns-in-Some-spoil-clause-taken
 returns-in-Some-spoil-clause-taken g c =
-    let after : Boxed = record { setting = record { script = c.loop-byte.self.script.entries.items; position = c.min-self.result }; below = g.L.Line.meaning c.take.new.self } in
+    let after : Boxed = record { setting = record { script = c.loop-byte.self.script; position = c.min-self.result }; below = g.L.Line.meaning c.take.new.self } in
     taken_from_through (boxed g.L.Line.meaning c.args.self.now) after _ (drawn_out {after = after} c.loop-byte.invariant.1 c.in-Some.ensures.taken c.min-self.ensures refl c.in-Some-spoil.ensures.out)
