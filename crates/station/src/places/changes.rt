@@ -33,7 +33,7 @@ impl Places {
         ensures* lent { sem 𝓛 (LendsFirst (FnReturnsAt F.Fn is_so) self.entry result) }
         ensures held { (test : Stage → Bool) → Tests (FnReturnsAt F.Fn is_so) test → first test self.old ≡ option_map (λ r. r.now) result }
     {
-        // kept: (c) a place on the way, and no `iter_mut().find(..)`: of what an adapter of `iter_mut` lends nothing is known afterwards.
+        // kept: (c) tried: `iter_mut().find(..)`, with no place on the way; the goal `returns` then asks for `⊥`, since of what an adapter of `iter_mut` lends nothing is known afterwards.
         let place = self.inquiries.iter().position(&is_so)?;
         self.inquiries.get_mut(place)
     }
