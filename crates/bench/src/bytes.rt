@@ -1,15 +1,15 @@
 // Words of a script as bytes and numbers.
 use super::mistake::{Mistake, Wanted};
-use hex::{FromHex, FromHexError};
-use std::alloc::{AllocError, Global};
+use hex::FromHex;
+use std::alloc::Global;
 use std::iter;
 
 // The bytes that some words stand for.
 pub fn bytes_of<'a>(heap: Global, words: &[&'a str]) -> Result<Vec<u8>, Mistake<'a>> {
-    let mut bytes = Vec::new(heap);
+    let mut bytes = Vec::with_capacity(heap, words.len())?;
     for &word in words {
         match word.split_once('*') {
-            None => bytes.extend_from_slice(pairs_of(heap, word)?.as_slice())?,
+            None => add_pairs(word, &mut bytes)?,
             Some((pair, count)) => {
                 let byte = byte_of(pair)?;
                 bytes.extend(iter::repeat_n(byte, number_of(count)?))?;
@@ -19,12 +19,11 @@ pub fn bytes_of<'a>(heap: Global, words: &[&'a str]) -> Result<Vec<u8>, Mistake<
     Ok(bytes)
 }
 
-// A byte for every two digits of a word.
-fn pairs_of(heap: Global, word: &str) -> Result<Vec<u8>, Mistake<'_>> {
-    hex::decode(heap, word).map_err(|e| match e {
-        FromHexError::OutOfMemory => Mistake::Memory(AllocError),
-        _ => Mistake::Word(word, Wanted::Bytes),
-    })
+// Adds a byte for every two digits of a word, read where they are to stand.
+fn add_pairs<'a>(word: &'a str, bytes: &mut Vec<u8>) -> Result<(), Mistake<'a>> {
+    let start = bytes.len();
+    bytes.resize(start + word.len() / 2, 0)?;
+    hex::decode_to_slice(word, &mut bytes[start..]).map_err(|_| Mistake::Word(word, Wanted::Bytes))
 }
 
 // The byte that two digits stand for.

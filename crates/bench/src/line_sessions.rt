@@ -30,30 +30,35 @@ pub fn on_tape(capture: &[u8], stand: &mut Stand<'_>) -> Result<Option<Maker>, F
 
 // Plays on a line, and with each box that is put around it, up to the third. A line with another number of boxes
 // around it is of another type.
+// kept: (b) a function for each box, and no `?` from one to the next: that would hand on every end as the answer for a line in three boxes, in memory for such a line, which took half as long again for each line that is made. One function that calls itself would need `type Boxed: Boxable`, a bound that recurs and is refused.
+// The hint has the line made where it is played on.
+#[inline(always)]
 fn on_line<S>(bare: S, stand: &mut Stand<'_>) -> Result<Option<Maker>, Failure>
 where
     S: Boxable,
     S::Boxed: Boxable,
     <S::Boxed as Boxable>::Boxed: Boxable,
 {
-    match boxed_thrice(bare, stand) {
-        ControlFlow::Continue(mut thrice) => play(&mut thrice, stand),
+    match play_to_box(bare, 1, stand) {
+        ControlFlow::Continue(once) => on_boxed_once(once, stand),
         ControlFlow::Break(end) => end,
     }
 }
 
-// Plays on a line up to the third box, or to what comes before that: what is to be made next, or a failure.
-// kept: (d) a line for each box, since each of the three is of another type; one function that calls itself would need `type Boxed: Boxable`, a bound that recurs and is refused.
-fn boxed_thrice<S>(
-    bare: S,
-    stand: &mut Stand<'_>,
-) -> ControlFlow<Result<Option<Maker>, Failure>, <<S::Boxed as Boxable>::Boxed as Boxable>::Boxed>
+fn on_boxed_once<S>(once: S, stand: &mut Stand<'_>) -> Result<Option<Maker>, Failure>
 where
     S: Boxable,
     S::Boxed: Boxable,
-    <S::Boxed as Boxable>::Boxed: Boxable,
 {
-    let once = play_to_box(bare, 1, stand)?;
-    let twice = play_to_box(once, 2, stand)?;
-    play_to_box(twice, 3, stand)
+    match play_to_box(once, 2, stand) {
+        ControlFlow::Continue(twice) => on_boxed_twice(twice, stand),
+        ControlFlow::Break(end) => end,
+    }
+}
+
+fn on_boxed_twice<S: Boxable>(twice: S, stand: &mut Stand<'_>) -> Result<Option<Maker>, Failure> {
+    match play_to_box(twice, 3, stand) {
+        ControlFlow::Continue(mut thrice) => play(&mut thrice, stand),
+        ControlFlow::Break(end) => end,
+    }
 }

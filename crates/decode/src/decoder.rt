@@ -17,12 +17,12 @@ pub struct Decoder {
 }
 
 impl Decoder {
-    pub fn new(heap: Global) -> Result<Decoder, AllocError> {
-        Ok(Decoder {
+    pub fn new() -> Decoder {
+        Decoder {
             reader: Reader::new(),
             tally: Tally::new(),
-            lines: Text::new(heap)?,
-        })
+            lines: Text::new(),
+        }
     }
 
     // Gathers a line for each thing that a stretch of the capture completes, until no line more has room; answers what
@@ -37,8 +37,8 @@ impl Decoder {
             let (finding, used) = self.reader.read(rest);
             rest = &rest[used..];
             self.tally.bytes = self.tally.bytes.saturating_add(used as u64);
-            if let Some(finding) = finding {
-                self.note(&finding);
+            if let Some(finding) = &finding {
+                self.note(finding);
             }
         }
         rest

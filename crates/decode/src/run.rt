@@ -35,7 +35,7 @@ fn decode(rt: &HostRuntime, capture: Capture) -> Result<(), Failure> {
 
 fn decode_all<R: Read>(rt: &HostRuntime, input: &mut R, hex: bool) -> Result<(), Failure> {
     let heap = rt.alloc();
-    let mut decoder = Decoder::new(heap)?;
+    let mut decoder = Decoder::new();
     let mut digits = HexText::new();
     let mut buffer = vec![in heap; 0u8; STRETCH]?;
     let mut bytes = Vec::new(heap);

@@ -5,7 +5,7 @@ use borrow.Rule.Slice.PartMut.{put_mid}
 use Rattle.lines.specs.Rings.{ring_bytes}
 
 -- A part that goes in at the place behind the last byte, and does not reach past the end of the memory.
-part_added : (memory part : List ℕ) (head len start k n : ℕ) → head ≤ length memory → length part ≡ k → n ≡ len + k → n ≤ length memory → start + k ≤ length memory → (0 < k → head + len < length memory → start ≡ head + len) → (0 < k → length memory ≤ head + len → start + length memory ≡ head + len) → ring_bytes (put_mid start k memory part) head n ≡ ring_bytes memory head len ++ part
+pub part_added : (memory part : List ℕ) (head len start k n : ℕ) → head ≤ length memory → length part ≡ k → n ≡ len + k → n ≤ length memory → start + k ≤ length memory → (0 < k → head + len < length memory → start ≡ head + len) → (0 < k → length memory ≤ head + len → start + length memory ≡ head + len) → ring_bytes (put_mid start k memory part) head n ≡ ring_bytes memory head len ++ part
 part_added memory part head len start k n begins size more room short straight round =
     same_lists _ _ (grind (arith, places)) (λ i d h. grind (arith, places))
 

@@ -17,7 +17,7 @@ pub(crate) struct Ring<'a> {
 }
 
 impl<'a> Ring<'a> {
-    ghost use Rattle.std.specs.Prelude.{◌≡◌, ◌+◌, ◌<◌, ◌≤◌, [], length};
+    ghost use Rattle.std.specs.Prelude.{◌≡◌, ◌+◌, ◌<◌, ◌≤◌, [], ◌∷◌, length};
     ghost use Rattle.lines.specs.Queues.{FirstOut, AllIn};
     ghost use Rattle.lines.specs.Rings.{held, ring_size};
 
@@ -69,6 +69,21 @@ impl<'a> Ring<'a> {
         self.memory[start..start + straight.len()].copy_from_slice(straight);
         self.memory[0..round.len()].copy_from_slice(round);
         self.len += bytes.len();
+        Ok(())
+    }
+
+    // Adds one byte behind the last, or refuses it: a byte that comes alone is not worth two copies of a stretch.
+    pub(crate) fn push(&mut self, byte: u8) -> Result<(), Refusal>
+        ensures appended { AllIn (ring_size self.old) (held self.old) (byte ∷ []) result (held self.new) }
+        ensures sized { ring_size self.new ≡ ring_size self.old }
+    {
+        if self.room() == 0 {
+            return Err(Refusal::NoSpace);
+        }
+        let len = self.len;
+        let end = self.place(len);
+        self.memory[end..end + 1].copy_from_slice(&[byte]);
+        self.len += 1;
         Ok(())
     }
 

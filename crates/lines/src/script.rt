@@ -40,10 +40,11 @@ impl TryFrom<&[Entry]> for Script {
 
     // The script with these entries, or why there is none.
     fn try_from(entries: &[Entry]) -> Result<Self, Refusal> {
-        if !rises(entries) {
+        // Too many are refused by their number alone, before any is looked at.
+        let entries = ArrayVec::try_from(entries).map_err(|_| Refusal::BadScript)?;
+        if !rises(entries.as_slice()) {
             return Err(Refusal::BadScript);
         }
-        let entries = ArrayVec::try_from(entries).map_err(|_| Refusal::BadScript)?;
         Ok(Script { entries })
     }
 }

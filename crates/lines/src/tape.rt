@@ -1,25 +1,26 @@
 // A tape: the rest of a capture to read, and a record of what was sent.
-ghost use Rattle.std.specs.Prelude.{◌≤◌, length};
-ghost use Rattle.lines.specs.declared.tape.TheConstants.{CAPACITY};
+ghost use Rattle.std.specs.Prelude.{◌≡◌, ◌≤◌, length};
 
 use crate::line::Line;
 use crate::refusal::Refusal;
-use arrayvec::ArrayVec;
 
 // How many outgoing bytes a tape keeps.
 const CAPACITY: usize = 1024;
 
-// The bytes still to read, and the bytes sent.
+// The bytes still to read, and the bytes sent, which stand in the first `len` places.
+// kept: (b) no `ArrayVec` for the bytes sent: its `clear` writes over each of them, where this one forgets how many they are.
 // kept: (d) no model: `meaning` of the trait is its view, and a model would say the same once more.
 #[derive(Drop)]
 pub struct Tape<'a> {
     rest: &'a [u8],
-    sent: ArrayVec<u8, CAPACITY>,
-    ghost within: { length sent.items ≤ CAPACITY },
+    sent: [u8; CAPACITY],
+    len: usize,
+    ghost whole: { length sent ≡ 1024 },
+    ghost within: { len ≤ 1024 },
 }
 
 impl<'a> Tape<'a> {
-    ghost use Rattle.std.specs.Prelude.{◌≡◌, []};
+    ghost use Rattle.std.specs.Prelude.{[]};
     ghost use Rattle.lines.specs.Tapes.{taped, Cleared};
 
     // A tape that has the whole capture still to read, and nothing sent.
@@ -28,7 +29,8 @@ impl<'a> Tape<'a> {
     {
         Tape {
             rest: capture,
-            sent: ArrayVec::new(),
+            sent: [0; CAPACITY],
+            len: 0,
         }
     }
 
@@ -36,14 +38,14 @@ impl<'a> Tape<'a> {
     pub fn sent(&self) -> &[u8]
         ensures all { result.now ≡ (taped self.now).outgoing }
     {
-        self.sent.as_slice()
+        &self.sent[0..self.len]
     }
 
     // Forgets the bytes sent, which leaves the whole space.
     pub fn clear(&mut self)
         ensures cleared { Cleared (taped self.old) (taped self.new) }
     {
-        self.sent.clear();
+        self.len = 0;
     }
 }
 
@@ -65,12 +67,16 @@ impl<'a> Line for Tape<'a> {
     }
 
     fn put(&mut self, bytes: &[u8]) -> Result<(), Refusal> {
-        self.sent
-            .try_extend_from_slice(bytes)
-            .map_err(|_| Refusal::NoSpace)
+        if self.space() < bytes.len() {
+            return Err(Refusal::NoSpace);
+        }
+        let end = self.len + bytes.len();
+        self.sent[self.len..end].copy_from_slice(bytes);
+        self.len = end;
+        Ok(())
     }
 
     fn space(&self) -> usize {
-        self.sent.remaining_capacity()
+        CAPACITY - self.len
     }
 }

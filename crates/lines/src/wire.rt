@@ -68,7 +68,7 @@ impl<'a> FarEnd for Wire<'a> {
     ghost boxes = { λ _. [] };
 
     fn bring(&mut self, byte: u8) -> Result<(), Refusal> {
-        self.incoming.append(&[byte])
+        self.incoming.push(byte)
     }
 
     fn carry(&mut self) -> Option<u8> {

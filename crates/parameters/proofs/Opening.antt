@@ -3,13 +3,14 @@ use Rattle.std.proofs.Common.{◌≡◌, ℕ, ◌+◌, ◌<◌, Bool, true, fals
 use Rattle.std.proofs.lemmas.Bool.{and_from, and_left, and_right, and_parts, both_ways, cases_Bool, cond-true, cond-false, or_cases, or_left, or_right}
 use Rattle.std.proofs.lemmas.List.{get_or-map, take_more}
 use Rattle.parameters.specs.declared.parameter.Row.{Row}
+use Rattle.parameters.specs.declared.parameter.Lawful.{Lawful}
 use Rattle.parameters.specs.declared.parameter.Parameter.{Parameter}
 use Rattle.parameters.specs.declared.parameter.Parameter.TheVariants.{OwnPollingGroup, RadioAcknowledge, RelayRouteStatus, RelayRoute, PollingRoute, GroupNumber, PollingTime, UserTimeOut, ExchangeStatus, SwitchMode}
-use Rattle.parameters.specs.Parameters.{row_for, parameters, admits}
-use Rattle.parameters.specs.Values.{Values, lawful, lawful_if}
+use Rattle.parameters.specs.Parameters.{row_for, parameters}
+use Rattle.parameters.specs.Values.{Values}
 use Rattle.parameters.specs.Images.{same, start_of, width, used, blank, field_in, value_in, sound_field, sound_among}
-use Rattle.parameters.proofs.Apart.{same_is, numbered_own}
-use Rattle.parameters.proofs.Known.{own_row, and_true}
+use Rattle.parameters.proofs.Apart.{same_is}
+use Rattle.parameters.proofs.Known.{own_row}
 
 -- Fields that are all sound make a sound image.
 pub all_sound : (image : List ℕ) → ((p : Parameter) → sound_field (row_for p).lawful (field_in image p) ≡ true)
@@ -116,37 +117,14 @@ pub not_ok : {X E : Type 0} (r : Result X E) → is_err r ≡ true → is_ok r �
 not_ok (Ok x) err = sym err
 not_ok (Err y) err = refl
 
--- A part of an image, as the program cuts it out for a row.
-module _ (image : List ℕ) (row : Row) (s k : ℕ) (is : row ≡ row_for row.parameter)
-    (starts : s ≡ start_of row.parameter) (wide : k ≡ width row.lawful) where
-  abbrev p : Parameter
-  p = row.parameter
-
+-- A part of an image, as the program cuts it out for a parameter.
+module _ (image : List ℕ) (p : Parameter) (lawful : Lawful) (s k : ℕ) (is : lawful ≡ (row_for p).lawful)
+    (starts : s ≡ start_of p) (wide : k ≡ width lawful) where
   abbrev part : List ℕ
   part = take k (drop s image)
 
-  lawful_is : row.lawful ≡ (row_for p).lawful
-  lawful_is = ap (λ r. r.lawful) is
-
   part_is : part ≡ field_in image p
-  part_is = (λ i. take ((wide ∙ ap width lawful_is) i) (drop (starts i) image))
+  part_is = (λ i. take ((wide ∙ ap width is) i) (drop (starts i) image))
 
-  value_is : take (used row.lawful part) part ≡ value_in image p
-  value_is = (λ i. take (used (lawful_is i) (part_is i)) (part_is i))
-
-  blank_is : blank (drop (used row.lawful part) part) ≡ blank (drop (used (row_for p).lawful (field_in image p)) (field_in image p))
-  blank_is = (λ i. blank (drop (used (lawful_is i) (part_is i)) (part_is i)))
-
-  pub not_blank : blank (drop (used row.lawful part) part) ≡ false → sound_field (row_for p).lawful (field_in image p) ≡ false
-  not_blank differs =
-      and_right (admits (row_for p).lawful (value_in image p))
-      (blank (drop (used (row_for p).lawful (field_in image p)) (field_in image p))) (sym blank_is ∙ differs)
-
-  pub blank_behind : (value : List ℕ) → blank (drop (used row.lawful part) part) ≡ true → value ≡ take (used row.lawful part) part
-      → lawful row.number value ≡ sound_field (row_for p).lawful (field_in image p)
-  blank_behind value yes_blank at =
-      ap (λ n. lawful n value) (ap (λ r. r.number) is)
-      ∙ ap (λ o. lawful_if o value) (numbered_own p)
-      ∙ ap (admits (row_for p).lawful) (at ∙ value_is)
-      ∙ and_true (admits (row_for p).lawful (value_in image p))
-      (blank (drop (used (row_for p).lawful (field_in image p)) (field_in image p))) (sym blank_is ∙ yes_blank)
+  pub blank_is : blank (drop (used lawful part) part) ≡ blank (drop (used (row_for p).lawful (field_in image p)) (field_in image p))
+  blank_is = (λ i. blank (drop (used (is i) (part_is i)) (part_is i)))

@@ -1,6 +1,6 @@
 // The ten parameters: number, lawful values and first value of each.
 ghost use Rattle.std.specs.Prelude.{◌≡◌};
-ghost use Rattle.parameters.specs.Parameters.{parameter_numbered, row_numbered};
+ghost use Rattle.parameters.specs.Parameters.{parameter_numbered, row_for, row_numbered};
 
 use frames::numbered::{Numbered, find};
 
@@ -117,6 +117,15 @@ pub static ROWS: [Row; 10] = [
         first: 1,
     },
 ];
+
+impl Parameter {
+    // Which values are lawful for the parameter.
+    pub(crate) fn lawful(self) -> Lawful
+        ensures lawful { result ≡ (row_for self).lawful }
+    {
+        ROWS[self as usize].lawful
+    }
+}
 
 /// The row of the parameter with this number, or that no parameter has it.
 pub fn row_of(number: u8) -> Option<Row>

@@ -1,6 +1,4 @@
 // The table store: each parameter's value is a record of its own.
-mod opened;
-
 ghost use Rattle.std.specs.Prelude.{◌≡◌};
 ghost use Rattle.parameters.specs.declared.parameter.Parameter.{Parameter};
 ghost use Rattle.parameters.specs.Parameters.{first_value};
@@ -48,10 +46,10 @@ impl TableStore {
     }
 }
 
-// Calls a method of the value of the parameter with a number; `unknown` if there is no such parameter.
+// Calls a method of the value of a parameter; `unknown` if there is no parameter.
 macro_rules! of_value {
-    ($table:expr, $number:expr, $unknown:expr, $method:ident($($argument:expr),*)) => {
-        match parameter_of($number) {
+    ($table:expr, $parameter:expr, $unknown:expr, $method:ident($($argument:expr),*)) => {
+        match $parameter {
             None => $unknown,
             Some(Parameter::OwnPollingGroup) => $table.own_polling_group.$method($($argument),*),
             Some(Parameter::RadioAcknowledge) => $table.radio_acknowledge.$method($($argument),*),
@@ -67,6 +65,8 @@ macro_rules! of_value {
     };
 }
 
+mod opened;
+
 impl Store for TableStore {
     ghost held = { table_held };
 
@@ -75,14 +75,14 @@ impl Store for TableStore {
     ghost over = { λ _ _. Unit {0} };
 
     fn length(&self, number: u8) -> usize {
-        of_value!(self, number, 0, length())
+        of_value!(self, parameter_of(number), 0, length())
     }
 
     fn byte(&self, number: u8, place: usize) -> Option<u8> {
-        of_value!(self, number, None, byte(place))
+        of_value!(self, parameter_of(number), None, byte(place))
     }
 
     fn write(&mut self, number: u8, value: &[u8]) -> Result<(), Unlawful> {
-        of_value!(self, number, Err(Unlawful), write(value))
+        of_value!(self, parameter_of(number), Err(Unlawful), write(value))
     }
 }

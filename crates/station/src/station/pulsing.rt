@@ -51,8 +51,8 @@ impl Station {
         while !unread.is_empty() {
             let (finding, used) = self.reader.read(unread);
             unread = &unread[used..];
-            if let Some(finding) = finding {
-                self.handle(&finding, line);
+            if let Some(finding) = &finding {
+                self.handle(finding, line);
             }
         }
     }

@@ -5,4 +5,4 @@ use Rattle.lines.proofs.Orders.{goes_on}
 use Rattle.lines.proofs.wire.WireFarEnd.bring.Goals as goal
 
 pub returns-clause-law : goal.returns-clause-law
-returns-clause-law c = goes_on _ _ (brings c.args.byte c.append.result) (search rules)
+returns-clause-law c = goes_on _ _ (brings c.args.byte c.push.result) (search rules)
