@@ -30,7 +30,7 @@ pub fn on_tape(capture: &[u8], stand: &mut Stand<'_>) -> Result<Option<Maker>, F
 
 // Plays on a line, and with each box that is put around it, up to the third. A line with another number of boxes
 // around it is of another type.
-// kept: (b) a function for each box, and no `?` from one to the next: that would hand on every end as the answer for a line in three boxes, in memory for such a line, which took half as long again for each line that is made. One function that calls itself would need `type Boxed: Boxable`, a bound that recurs and is refused.
+// kept: (b) a function for each box, and no `?` from one to the next: that would hand on every end as the answer for a line in three boxes, in memory for such a line, with which each line that is made took a third more time. One function that calls itself would need `type Boxed: Boxable`, a bound that recurs and is refused.
 // The hint has the line made where it is played on.
 #[inline(always)]
 fn on_line<S>(bare: S, stand: &mut Stand<'_>) -> Result<Option<Maker>, Failure>
